@@ -1,0 +1,1 @@
+// Bytes in one slice.
