@@ -1,0 +1,4 @@
+pub mod Splice
+pub mod Turns
+pub mod Tests
+pub mod Digits

@@ -1,0 +1,65 @@
+// Writers of a stretch of a slice. The loops go byte by byte in the shape that the compiler turns into wide steps.
+ghost use mathlib.Core.Path.{_≡_};
+ghost use Prim.Native.Nat.{_+_, _≤_};
+ghost use lib.ListN.{length, replicate};
+ghost use Rattle.buffer.specs.Splice.{splice, region};
+
+// Lays `src` over `s` from `at` on.
+pub fn copy_from(s: &mut [u8], at: usize, src: &[u8])
+    requires { ⌜ at + length (now src) ≤ length (now s) ⌝ }
+    ensures { λ _. ⌜ now (s .exit) ≡ splice (now (s .entry)) at (now (src .entry)) ⌝ }
+{
+    let mut i: usize = 0;
+    while i < src.len() {
+        s[at + i] = src[i];
+        i += 1;
+    }
+}
+
+// Moves `n` bytes towards the front: first byte first, so what is still to be read is not written over.
+fn move_down(s: &mut [u8], from: usize, to: usize, n: usize)
+    requires { ⌜ (to ≤ from) × (from + n ≤ length (now s)) ⌝ }
+    ensures { λ _. ⌜ now (s .exit) ≡ splice (now (s .entry)) to (region (now (s .entry)) from n) ⌝ }
+{
+    let mut i: usize = 0;
+    while i < n {
+        s[to + i] = s[from + i];
+        i += 1;
+    }
+}
+
+// Moves `n` bytes towards the end: last byte first.
+fn move_up(s: &mut [u8], from: usize, to: usize, n: usize)
+    requires { ⌜ (from ≤ to) × (to + n ≤ length (now s)) ⌝ }
+    ensures { λ _. ⌜ now (s .exit) ≡ splice (now (s .entry)) to (region (now (s .entry)) from n) ⌝ }
+{
+    let mut i: usize = n;
+    while i > 0 {
+        i -= 1;
+        s[to + i] = s[from + i];
+    }
+}
+
+// Moves the `n` bytes at `from` to `to`; the two stretches may overlap, either way round.
+pub fn move_within(s: &mut [u8], from: usize, to: usize, n: usize)
+    requires { ⌜ (from + n ≤ length (now s)) × (to + n ≤ length (now s)) ⌝ }
+    ensures { λ _. ⌜ now (s .exit) ≡ splice (now (s .entry)) to (region (now (s .entry)) from n) ⌝ }
+{
+    if to <= from {
+        move_down(s, from, to, n);
+    } else {
+        move_up(s, from, to, n);
+    }
+}
+
+// Writes `n` zeros from `at` on.
+pub fn clear(s: &mut [u8], at: usize, n: usize)
+    requires { ⌜ at + n ≤ length (now s) ⌝ }
+    ensures { λ _. ⌜ now (s .exit) ≡ splice (now (s .entry)) at (replicate n 0) ⌝ }
+{
+    let mut i: usize = 0;
+    while i < n {
+        s[at + i] = 0;
+        i += 1;
+    }
+}
