@@ -2,12 +2,12 @@
 -- or change places. `splice` stays shut; a proof above cites these. Assumes nothing.
 use mathlib.Core.Path.{_≡_, refl, sym, ap, _∙_}
 use Prim.Native.Nat.{ℕ, _+_, _-_, _≤_, _<_, suc}
-use mathlib.Core.List.{List, [], _∷_, _++_, append-assoc}
+use mathlib.Core.List.{List, [], _∷_, _++_, append-assoc, append-nil}
 use native.Mathlib.Omega.{arith}
 use native.Mathlib.Nat.{add-assoc, add-zero}
 use native.Mathlib.Numerals.{add-one}
-use lib.ListN.{length, getD, take, drop, set, length-append, length-take, length-drop, take-append-drop}
-use lib.Seq.{drop-at, take-at, take-append-le, take-take, drop-drop, take-add, set-split, getD-drop, getD-take, take-suc, drop-cons, length-take-le, getD-append-add}
+use lib.ListN.{length, getD, take, drop, set, length-append, length-take, length-drop, take-append-drop, drop-of-length-le}
+use lib.Seq.{drop-at, take-at, take-append-le, take-take, drop-drop, take-add, set-split, getD-drop, getD-take, take-suc, drop-cons, length-take-le}
 use borrow.Rule.Slice.PartMut.{putMid}
 use Rattle.buffer.specs.Splice.{splice, region}
 
@@ -210,3 +210,13 @@ splice-part s a n y e = rw (splice-is s a y, drop-drop n a s, e)
 -- a region in two parts
 pub region-add : (s : List ℕ) (o m n : ℕ) → region s o (m + n) ≡ region s o m ++ region s (o + m) n
 region-add s o m n = rw (take-add m n (drop o s), drop-drop m o s)
+
+-- all of a list laid over
+pub splice-whole : (s b : List ℕ) → length b ≡ length s → splice s 0 b ≡ b
+splice-whole s b h =
+    let all : length s ≤ 0 + length b = omega arith in
+    rw (splice-is s 0 b, drop-of-length-le s all, append-nil b)
+
+-- one element moved
+pub set-region : (s : List ℕ) (i j : ℕ) → i < length s → j < length s → set s i (getD s j 0) ≡ splice s i (region s j 1)
+set-region s i j h k = rw (set-splice s i (getD s j 0) h, region-cons s j 0 k)

@@ -5,7 +5,7 @@ use mathlib.Core.List.{List, [], _∷_, _++_}
 use native.Mathlib.Omega.{arith}
 use lib.ListN.{length, getD, set}
 use Rattle.buffer.specs.Splice.{splice, region}
-use Rattle.buffer.proofs.Splice.{length-region, length-splice, getD-before, getD-after, set-splice, splice-snoc, splice-cons, region-snoc, region-cons, set-before}
+use Rattle.buffer.proofs.Splice.{region-before, region-add, splice-prev, length-region, length-splice, getD-before, getD-after, set-splice, splice-snoc, splice-cons, region-snoc, region-cons, set-before}
 
 pub grow : (s s₀ : List ℕ) (o i : ℕ) (b b' : List ℕ) (v : ℕ) → s ≡ splice s₀ o b → length b ≡ i → o + i < length s₀ → b ++ (v ∷ []) ≡ b'
     → set s (o + i) v ≡ splice s₀ o b'
@@ -23,19 +23,18 @@ down-turn s s₀ from to i e h k =
     let v : getD s (from + i) 0 ≡ getD s₀ (from + i) 0 = rw e (getD-after s₀ to (region s₀ from i) (omega arith) (from + i) (omega arith)) in
     rw v (grow s s₀ to i _ _ (getD s₀ (from + i) 0) e l (omega arith) (sym (region-snoc s₀ from i k)))
 
-pub up-turn : (s s₀ : List ℕ) (from to n i : ℕ) → s ≡ splice s₀ (to + i) (region s₀ (from + i) (n - i)) → from ≤ to → to + n ≤ length s₀
-    → i ≤ n → 0 < i
-    → set s (to + (i - 1)) (getD s (from + (i - 1)) 0) ≡ splice s₀ (to + (i - 1)) (region s₀ (from + (i - 1)) (n - (i - 1)))
-up-turn s s₀ from to n i e h k q z =
+-- k bytes more of a move towards the end
+pub up-turn : (s s₀ : List ℕ) (from to n i k : ℕ) → s ≡ splice s₀ (to + i) (region s₀ (from + i) (n - i)) → from ≤ to → to + n ≤ length s₀ → i ≤ n → k ≤ i
+    → splice s (to + (i - k)) (region s (from + (i - k)) k) ≡ splice s₀ (to + (i - k)) (region s₀ (from + (i - k)) (n - (i - k)))
+up-turn s s₀ from to n i k e h room le few =
     let l : length (region s₀ (from + i) (n - i)) ≡ n - i = length-region s₀ (from + i) (n - i) (omega arith) in
-    let e1 : to + i ≡ to + (i - 1) + 1 = omega arith in
-    let e2 : from + i ≡ from + (i - 1) + 1 = omega arith in
-    let e3 : n - (i - 1) ≡ (n - i) + 1 = omega arith in
-    let v : getD s (from + (i - 1)) 0 ≡ getD s₀ (from + (i - 1)) 0 =
-    rw e (getD-before s₀ (to + i) (region s₀ (from + i) (n - i)) (omega arith) (from + (i - 1)) (omega arith)) in
-    let e' : s ≡ splice s₀ (to + (i - 1) + 1) (region s₀ (from + i) (n - i)) = rw e1 at e in
-    rw (v, e3, region-cons s₀ (from + (i - 1)) (n - i) (omega arith), ← e2)
-    (grow-front s s₀ (to + (i - 1)) _ (getD s₀ (from + (i - 1)) 0) e' (omega arith))
+    let r : region s (from + (i - k)) k ≡ region s₀ (from + (i - k)) k = rw e (region-before s₀ (to + i) (region s₀ (from + i) (n - i)) (omega arith) (from + (i - k)) k (omega arith)) in
+    let lr : length (region s₀ (from + (i - k)) k) ≡ k = length-region s₀ (from + (i - k)) k (omega arith) in
+    let e1 : to + i ≡ to + (i - k) + length (region s₀ (from + (i - k)) k) = omega arith in
+    let e2 : n - (i - k) ≡ k + (n - i) = omega arith in
+    let e3 : from + (i - k) + k ≡ from + i = omega arith in
+    rw (r, e, e1, e2, region-add s₀ (from + (i - k)) k (n - i), e3)
+    (splice-prev s₀ (to + (i - k)) (region s₀ (from + (i - k)) k) (region s₀ (from + i) (n - i)) (omega arith))
 
 -- one turn of a swap of two regions, the first before the second
 pub swap-turn : (s s₀ : List ℕ) (a b w k : ℕ) → s ≡ splice (splice s₀ a (region s₀ b k)) b (region s₀ a k) → a + w ≤ b → b + w ≤ length s₀ → k < w

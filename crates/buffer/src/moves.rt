@@ -1,8 +1,11 @@
-// Writers of a stretch of a slice. The loops go byte by byte in the shape that the compiler turns into wide steps.
+// Writers of a stretch of a slice. The loops go byte by byte, in the shape that the compiler turns into wide steps (bench/buffer).
 ghost use mathlib.Core.Path.{_≡_};
 ghost use Prim.Native.Nat.{_+_, _≤_};
 ghost use lib.ListN.{length, replicate};
 ghost use Rattle.buffer.specs.Splice.{splice, region};
+
+// Bytes that a move towards the end takes in one step; a smaller block is slower, a larger one no faster.
+const BLOCK: usize = 512;
 
 // Lays `src` over `s` from `at` on.
 pub fn copy_from(s: &mut [u8], at: usize, src: &[u8])
@@ -28,8 +31,19 @@ fn move_down(s: &mut [u8], from: usize, to: usize, n: usize)
     }
 }
 
-// Moves `n` bytes towards the end: last byte first.
-fn move_up(s: &mut [u8], from: usize, to: usize, n: usize)
+// Moves one block: it is read whole before it is written, so the two places may overlap either way.
+fn move_block(s: &mut [u8], from: usize, to: usize)
+    requires { ⌜ (from + 512 ≤ length (now s)) × (to + 512 ≤ length (now s)) ⌝ }
+    ensures { λ _. ⌜ now (s .exit) ≡ splice (now (s .entry)) to (region (now (s .entry)) from 512) ⌝ }
+{
+    let mut block = [0u8; BLOCK];
+    let end = from + BLOCK;
+    copy_from(&mut block, 0, &s[from..end]);
+    copy_from(s, to, &block);
+}
+
+// Moves `n` bytes towards the end, last byte first.
+fn move_up_bytes(s: &mut [u8], from: usize, to: usize, n: usize)
     requires { ⌜ (from ≤ to) × (to + n ≤ length (now s)) ⌝ }
     ensures { λ _. ⌜ now (s .exit) ≡ splice (now (s .entry)) to (region (now (s .entry)) from n) ⌝ }
 {
@@ -38,6 +52,19 @@ fn move_up(s: &mut [u8], from: usize, to: usize, n: usize)
         i -= 1;
         s[to + i] = s[from + i];
     }
+}
+
+// The same, last block first and each block first byte first: wide stores that go downwards across cache lines are slow.
+fn move_up(s: &mut [u8], from: usize, to: usize, n: usize)
+    requires { ⌜ (from ≤ to) × (to + n ≤ length (now s)) ⌝ }
+    ensures { λ _. ⌜ now (s .exit) ≡ splice (now (s .entry)) to (region (now (s .entry)) from n) ⌝ }
+{
+    let mut i: usize = n;
+    while i >= BLOCK {
+        i -= BLOCK;
+        move_block(s, from + i, to + i);
+    }
+    move_up_bytes(s, from, to, i);
 }
 
 // Moves the `n` bytes at `from` to `to`; the two stretches may overlap, either way round.

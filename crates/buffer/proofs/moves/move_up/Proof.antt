@@ -1,10 +1,10 @@
--- With i bytes to go those behind them have moved; what is still to be read stands before them. Assumes nothing.
+-- With i bytes to go those behind them have moved, whole blocks of them; the bytes that fill no block come last. Assumes nothing.
 use borrow.Author.Needs.{needs}
 use native.Mathlib.Omega.{arith}
 use native.Mathlib.Nat.{add-zero, sub-zero, sub-self}
 use Prim.Native.Nat.{_+_, _≤_, _-_}
-use mathlib.Core.Path.{_≡_, refl, sym}
-use lib.ListN.{length, length-set}
+use mathlib.Core.Path.{_≡_, refl, sym, _∙_}
+use lib.ListN.{length}
 use Rattle.buffer.specs.Splice.{splice, region}
 use Rattle.buffer.proofs.Splice.{splice-nil}
 use Rattle.buffer.proofs.Turns.{up-turn}
@@ -19,12 +19,16 @@ abbrev μ-loop : tie.MeasureT-loop
 
 loop-again : tie.Need-loop-again Inv-loop μ-loop
 loop-again c =
-    (omega arith, simp length-set (omega arith), up-turn _ _ _ _ _ _ (c .before .before .loop .inv .2) (omega arith) (omega arith) (omega arith) (omega arith))
+    let l = c .before .before .before .before .before .loop in
+    let b = c .before .before .move-block in
+    (omega arith, b .kept .0 ∙ l .inv .1, b .ensures ∙ up-turn _ _ _ _ _ _ 512 (l .inv .2) (omega arith) (omega arith) (omega arith) (omega arith))
 
 returns : tie.Need-returns Inv-loop μ-loop
 returns c =
-    let e : c .before .loop .i ≡ 0 = omega arith in
-    simp (e, add-zero, sub-zero) at (c .before .loop .inv .2)
+    let l = c .before .before .before .before .before .loop in
+    let a = c .before .before .before .before .before .before .before .args in
+    let u = up-turn (l .s) (a .s .now) (a .from) (a .to) (a .n) (l .i) (l .i) (l .inv .2) (omega arith) (omega arith) (omega arith) (omega arith) in
+    c .before .before .move-up-bytes .ensures ∙ simp (sub-self, add-zero, sub-zero) at u
 
 pub move-up-spec : {M : Type 1} → statement M
 move-up-spec =
@@ -33,10 +37,9 @@ move-up-spec =
     (λ c. (omega arith, refl, rw sub-self (sym (splice-nil _ _))))
     (λ c. search needs)
     (λ c. search needs)
-    (λ c. search needs)
-    (λ c. search needs)
-    (λ c. search needs)
+    (λ c κs. search needs)
     (λ c. search needs)
     loop-again
-    (λ c. omega arith)
+    (λ c κs. search needs)
+    (λ c. search needs)
     returns)
