@@ -6,8 +6,8 @@ use mathlib.Core.List.{List, [], _∷_, _++_, append-assoc, append-nil}
 use native.Mathlib.Omega.{arith}
 use native.Mathlib.Nat.{add-assoc, add-zero}
 use native.Mathlib.Numerals.{add-one}
-use lib.ListN.{length, getD, take, drop, set, length-append, length-take, length-drop, take-append-drop, drop-of-length-le}
-use lib.Seq.{drop-at, take-at, take-append-le, take-take, drop-drop, take-add, set-split, getD-drop, getD-take, take-suc, drop-cons, length-take-le}
+use lib.ListN.{length, getD, take, drop, set, length-append, length-take, length-drop, take-append-drop, drop-of-length-le, List·getD-append}
+use lib.Seq.{drop-at, take-at, take-append-le, drop-append-le, take-take, drop-drop, take-add, set-split, getD-drop, getD-take, take-suc, drop-cons, length-take-le}
 use borrow.Rule.Slice.PartMut.{putMid}
 use Rattle.buffer.specs.Splice.{splice, region}
 
@@ -78,6 +78,16 @@ module _ (s : List ℕ) (o : ℕ) (b : List ℕ) (fit : o + length b ≤ length 
   pub region-at : region (splice s o b) o (length b) ≡ b
   region-at = rw (drop-at-splice s o b fit) (take-at b _ _ refl)
 
+  -- inside it, it is a region of b
+  pub region-inside : (i n : ℕ) → i + n ≤ length b → region (splice s o b) (o + i) n ≡ region b i n
+  region-inside i n h =
+      let front : i ≤ length b = omega arith in
+      let room : n ≤ length (drop i b) = rw length-drop (omega arith) in
+      rw (← drop-drop i o (splice s o b), drop-at-splice s o b fit, drop-append-le i b, take-append-le n (drop i b))
+
+  pub getD-inside : (i : ℕ) → i < length b → getD (splice s o b) (o + i) 0 ≡ getD b i 0
+  getD-inside i h = rw (← getD-drop o (splice s o b) i 0, drop-at-splice s o b fit) (List·getD-append b _ 0 i h)
+
   pub getD-before : (i : ℕ) → i < o → getD (splice s o b) i 0 ≡ getD s i 0
   getD-before i h =
       rw (← getD-take (suc i) (splice s o b) i 0 (omega arith), ← getD-take (suc i) s i 0 (omega arith))
@@ -104,8 +114,8 @@ module _ (s : List ℕ) (o : ℕ) (b : List ℕ) (fit : o + length b ≤ length 
       let z : o ≤ o = omega arith in
       rw (splice-is (splice s o b), splice-is s o a, take-before s o b fit o z, drop-after s o b fit _ k)
 
-  -- the second somewhere behind the first
-  pub splice-swap : (k : ℕ) (a : List ℕ) → o + length b + k + length a ≤ length s
+  -- the second k elements behind the first
+  splice-swap : (k : ℕ) (a : List ℕ) → o + length b + k + length a ≤ length s
       → splice (splice s o b) (o + length b + k) a ≡ splice (splice s (o + length b + k) a) o b
   splice-swap k a h =
       let q : ℕ = o + length b in
@@ -115,6 +125,13 @@ module _ (s : List ℕ) (o : ℕ) (b : List ℕ) (fit : o + length b ≤ length 
       let e2 : drop q (splice s (q + k) a) ≡ take k (drop q s) ++ (a ++ drop (q + k + length a) s) =
       rw (splice-is s (q + k) a, take-add q k s, append-assoc) (drop-at (take q s) _ q (length-take-le q s fit)) in
       rw (splice-is (splice s o b), splice-is (splice s (q + k) a), e1, e2, drop-after s o b fit _ h1, take-before s (q + k) a h o h2) (simp append-assoc)
+
+-- two splices that do not meet, in either sequence
+pub splice-commute : (s : List ℕ) (o p : ℕ) (b a : List ℕ) → o + length b ≤ p → p + length a ≤ length s
+    → splice (splice s o b) p a ≡ splice (splice s p a) o b
+splice-commute s o p b a h k =
+    let e : p ≡ o + length b + (p - (o + length b)) = omega arith in
+    rw e (splice-swap s o b (omega arith) (p - (o + length b)) a (omega arith))
 
 -- the second right before the first
 pub splice-prev : (s : List ℕ) (o : ℕ) (b a : List ℕ) → o + length b + length a ≤ length s
@@ -159,10 +176,8 @@ region-cons s o n h = rw (add-one, add-one, drop-cons s o 0)
 -- one element before a splice
 pub set-before : (s : List ℕ) (o : ℕ) (b : List ℕ) (i v : ℕ) → i < o → o + length b ≤ length s → set (splice s o b) i v ≡ splice (set s i v) o b
 set-before s o b i v h fit =
-    let e : o ≡ i + 1 + (o - (i + 1)) = omega arith in
     let k : i < length (splice s o b) = rw (length-splice s o b fit) (omega arith) in
-    rw (set-splice (splice s o b) i v k, set-splice s i v (omega arith), e)
-    (sym (splice-swap s i (v ∷ []) (omega arith) (o - (i + 1)) b (omega arith)))
+    rw (set-splice (splice s o b) i v k, set-splice s i v (omega arith)) (sym (splice-commute s i o (v ∷ []) b (omega arith) fit))
 
 -- a splice behind what is dropped
 pub drop-before : (s : List ℕ) (k o : ℕ) (b : List ℕ) → k ≤ length s → drop k (splice s (k + o) b) ≡ splice (drop k s) o b
@@ -173,26 +188,19 @@ drop-before s k o b h =
 pub splice-inside : (s : List ℕ) (o : ℕ) (a d e z : List ℕ) → length e ≡ length d → o + length a + length d + length z ≤ length s
     → splice (splice s o (a ++ (d ++ z))) (o + length a) e ≡ splice s o (a ++ (e ++ z))
 splice-inside s o a d e z q h =
-    let f1 : o + length a ≤ length s = omega arith in
-    let f2 : length (splice s o a) ≡ length s = length-splice s o a f1 in
-    let f3 : o + length a + length (d ++ z) ≤ length (splice s o a) = omega (arith, length-append d z) in
-    let f4 : o + length a + length d ≤ length (splice s o a) = omega arith in
-    let g : length (splice (splice s o a) (o + length a) e) ≡ length s = length-splice (splice s o a) (o + length a) e (omega arith) ∙ f2 in
+    let fit : o + length a ≤ length s = omega arith in
+    let t : List ℕ = splice s o a in
+    let l : length t ≡ length s = length-splice s o a fit in
+    let td : List ℕ = splice t (o + length a) d in
+    let ld : length td ≡ length t = length-splice t (o + length a) d (omega arith) in
     let n : o + length a + length d ≡ o + length a + length e = omega arith in
-    -- both are three splices in a row after a
-    let l1 : splice s o (a ++ (d ++ z)) ≡ splice (splice (splice s o a) (o + length a) d) (o + length a + length d) z =
-    sym (splice-next s o a f1 (d ++ z)) ∙ sym (splice-next (splice s o a) (o + length a) d f4 z) in
-    let l2 : splice s o (a ++ (e ++ z)) ≡ splice (splice (splice s o a) (o + length a) e) (o + length a + length e) z =
-    sym (splice-next s o a f1 (e ++ z)) ∙ sym (splice-next (splice s o a) (o + length a) e (omega arith) z) in
-    rw (l1, l2) (over (splice s o a) (o + length a) d e z q (omega arith))
-  where
-    over : (s : List ℕ) (o : ℕ) (d e z : List ℕ) → length e ≡ length d → o + length d + length z ≤ length s
-        → splice (splice (splice s o d) (o + length d) z) o e ≡ splice (splice s o e) (o + length e) z
-    over s o d e z q h =
-        let l : length (splice s o d) ≡ length s = length-splice s o d (omega arith) in
-        let n : o + length d ≡ o + length e + 0 = omega arith in
-        let m : o + length e + 0 ≡ o + length e = omega arith in
-        rw (n) (sym (splice-swap (splice s o d) o e (omega arith) 0 z (omega arith)) ∙ rw (m, splice-over s o d (omega arith) e q))
+    let before : splice s o (a ++ (d ++ z)) ≡ splice td (o + length a + length d) z =
+    sym (splice-next s o a fit (d ++ z)) ∙ sym (splice-next t (o + length a) d (omega arith) z) in
+    let after : splice (splice t (o + length a) e) (o + length a + length e) z ≡ splice s o (a ++ (e ++ z)) =
+    splice-next t (o + length a) e (omega arith) z ∙ splice-next s o a fit (e ++ z) in
+    let apart : splice (splice td (o + length a + length e) z) (o + length a) e ≡ splice (splice td (o + length a) e) (o + length a + length e) z =
+    sym (splice-commute td (o + length a) (o + length a + length e) e z (omega arith) (omega arith)) in
+    rw (before, n, apart, splice-over t (o + length a) d (omega arith) e q) after
 
 -- what stands before a splice, taken into it
 pub splice-from : (s : List ℕ) (o p : ℕ) (y : List ℕ) → o ≤ p → p + length y ≤ length s → splice s p y ≡ splice s o (region s o (p - o) ++ y)
