@@ -48,7 +48,7 @@ def row_sequence(key):
 
 class Node(NamedTuple):
     """A node of a level or of the small trie: dimension, its strings {V: .., P: ..}, children ascending by branching byte, and for
-    a leaf its suffixes (keys of which only the rest is left), in row sequence."""
+    a leaf its suffixes (keys of which only the rest is left): in row sequence in a level, as they were added in the small trie."""
 
     dimension: int
     strings: dict
@@ -159,7 +159,7 @@ def added(node, rest, above=None):
         return split(node, rest, agreed, split_dimension(differing, above))
     rest = key_rest(rest, agreed)
     if node.dimension == LEAF:
-        return node._replace(suffixes=tuple(sorted(node.suffixes + ((rest[R], b"", b""),))))
+        return node._replace(suffixes=node.suffixes + ((rest[R], b"", b""),))
     byte = rest[node.dimension][0]
     children = {branching_byte(node, child): child for child in node.children}
     children[byte] = added(children[byte], rest, node.dimension) if byte in children else small_leaf(rest)
