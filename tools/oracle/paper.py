@@ -89,7 +89,7 @@ class Box:
     def frozen(self):
         """As nested tuples: dimension, value bytes, path bytes, children by byte, references."""
         children = tuple((byte, child.frozen()) for byte, child in sorted(self.children.items()))
-        return (self.d, self.s[V], self.s[P], children, tuple(sorted(self.references)))
+        return (self.d, self.s[V], self.s[P], children, tuple(self.references))
 
 
 def insert(root, key):
