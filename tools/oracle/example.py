@@ -32,7 +32,7 @@ def dumped_node(node, at, name):
     data = encode(node)
     v, p = len(node.strings[V]), len(node.strings[P])
     body = len(data) - 7 - v - p
-    kind = "a leaf" if node.dimension == LEAF else f"children differ in {NAME[node.dimension]}"
+    kind = "a leaf" if node.dimension == LEAF else f"branches in {NAME[node.dimension]}"
     yield f"        -- {name}: {len(data)} bytes, {at:,} to {at + len(data) - 1:,}"
     yield line(at, data[:1], f"d: {kind}")
     yield line(at + 1, data[1:2], "v")
