@@ -1,0 +1,27 @@
+-- The parting of keys by the byte at their discriminative position (Definition 6).
+use Prim.Native.Nat.{ℕ, zero, suc}
+use mathlib.Core.List.{List, [], _∷_}
+use lib.Dec.{eqb}
+use Rattle.trie_theory.specs.LevelForest.{Key, pick}
+use Rattle.trie_theory.specs.LevelPosition.{shared, byte}
+
+-- the keys with byte b behind the bytes p in dimension d, in their sequence
+unfoldable pub keep : ℕ → List (List ℕ) → ℕ → List Key → List Key
+unfolding pick byte
+keep d p b ks = pick (λ x. eqb (byte d p x) b) ks
+
+-- a part, unless it is empty, before others
+unfoldable pub filled : List Key → List (List Key) → List (List Key)
+filled [] ps = ps
+filled (x ∷ xs) ps = (x ∷ xs) ∷ ps
+
+-- the parts of f bytes, ascending from byte b
+unfoldable pub partsFrom : ℕ → List (List ℕ) → ℕ → ℕ → List Key → List (List Key)
+unfolding keep filled
+partsFrom d p zero b ks = []
+partsFrom d p (suc f) b ks = filled (keep d p b ks) (partsFrom d p f (suc b) ks)
+
+-- the parts of all 256 bytes
+unfoldable pub parts : ℕ → List Key → List (List Key)
+unfolding shared partsFrom
+parts d ks = partsFrom d (shared ks) 256 0 ks
