@@ -1,15 +1,18 @@
--- The nine keys of Table 1, and what the paper computes from them: Table 3 (P1 to P3), Example 10 (P4) and Table 5.
+-- The nine keys of Table 1 and what is computed from them: Table 3 and P1 to P4, Table 5. And small tries node by node.
 use mathlib.Core.Path.{_≡_, refl}
 use Prim.Native.Nat.{ℕ}
 use Prim.Native.String.{String}
 use Prim.Native.Char.{code}
+use mathlib.Core.Bool.{Bool, true, false}
 use mathlib.Core.List.{List, [], _∷_, _++_, map}
 use lib.ListN.{replicate}
-use Rattle.trie_theory.specs.LevelForest.{Key, Forest, none, leaf, inner}
-use Rattle.trie_theory.specs.LevelPosition.{position}
-use Rattle.trie_theory.specs.LevelLevel.{levelOf, start}
-use Rattle.trie_theory.specs.LevelWalk.{Step, walk}
-
+use Rattle.trie_theory.specs.Forest.{Strings, Key, Forest, none, leaf, inner}
+use Rattle.trie_theory.specs.Dimensions.{root}
+use Rattle.trie_theory.specs.Position.{position}
+use Rattle.trie_theory.specs.Level.{levelOf}
+use Rattle.trie_theory.specs.SmallTrie.{smallTrie}
+use Rattle.trie_theory.specs.Lookup.{member}
+use Rattle.trie_theory.specs.Walk.{Step, walk}
 -- the bytes of a text
 abbrev pub text : String → List ℕ
 text String.[] = []
@@ -28,7 +31,7 @@ abbrev pub reference : ℕ → ℕ → ℕ → ℕ → ℕ → List ℕ
 reference a b c d e = a ∷ b ∷ c ∷ d ∷ e ∷ replicate 15 0
 
 -- strings of the two dimensions, V first
-abbrev pub pair : List ℕ → List ℕ → List (List ℕ)
+abbrev pub pair : List ℕ → List ℕ → Strings
 pair v p = v ∷ p ∷ []
 
 abbrev pub entry : List ℕ → List ℕ → List ℕ → Key
@@ -86,29 +89,51 @@ k9 = entry (value 0x5D 0xA8 0x97 0x8B) (ended "/Sources/Scheduler.go") r7
 abbrev pub nine : List Key
 nine = k1 ∷ k2 ∷ k3 ∷ k4 ∷ k5 ∷ k6 ∷ k7 ∷ k8 ∷ k9 ∷ []
 
--- P1 to P3 and the rest of Table 3: path position, value position
-pub p1 : (position 1 nine ≡ 2) × (position 0 nine ≡ 5)
-unfolding position
-p1 = (refl, refl)
+-- the same in row sequence: by value, then path
+abbrev pub rows : List Key
+rows = k1 ∷ k4 ∷ k8 ∷ k9 ∷ k6 ∷ k5 ∷ k7 ∷ k3 ∷ k2 ∷ []
 
-pub table3-1489 : (position 1 (k1 ∷ k4 ∷ k8 ∷ k9 ∷ []) ≡ 10) × (position 0 (k1 ∷ k4 ∷ k8 ∷ k9 ∷ []) ≡ 7)
-unfolding position
-table3-1489 = (refl, refl)
+-- path and value position
+abbrev pub positions : List Key → List ℕ
+positions ks = position 1 ks ∷ position 0 ks ∷ []
 
-pub p2 : (position 1 (k4 ∷ k8 ∷ k9 ∷ []) ≡ 14) × (position 0 (k4 ∷ k8 ∷ k9 ∷ []) ≡ 7)
-unfolding position
-p2 = (refl, refl)
+-- the nodes of key 9 in the level of the nine keys, τ 2
+abbrev pub way : List Step
+way = walk [] (levelOf 2 2 rows) k9
 
-pub table3-89 : (position 1 (k8 ∷ k9 ∷ []) ≡ 18) × (position 0 (k8 ∷ k9 ∷ []) ≡ 9)
-unfolding position
-table3-89 = (refl, refl)
+-- a line of the table: what the definitions compute, and what is printed
+pub record Line : Type 0 where
+  pub computed : List ℕ
+  pub printed : List ℕ
 
-pub p3 : (position 1 (k9 ∷ []) ≡ 23) × (position 0 (k9 ∷ []) ≡ 9)
-unfolding position
-p3 = (refl, refl)
+abbrev pub line : List ℕ → List ℕ → Line
+line c p = record { computed = c; printed = p }
 
--- Table 5, as a trie. Below (00 00 00 00, /), parted by V, are
--- (5D A8, Sources/), parted by path into sources; (5E, fs/ext), a leaf; (5F BD, ε), parted by path into last-year
+-- Table 3, with P1, P2 and P3 its first, third and last line, and P4: the sets of key 9 have 9, 4, 3 and 2 keys, and are
+-- partitioned by V (1), path (2), V, then a leaf (0)
+abbrev pub table : List Line
+table =
+    line (positions nine) (2 ∷ 5 ∷ [])
+    ∷ line (positions (k1 ∷ k4 ∷ k8 ∷ k9 ∷ [])) (10 ∷ 7 ∷ [])
+    ∷ line (positions (k4 ∷ k8 ∷ k9 ∷ [])) (14 ∷ 7 ∷ [])
+    ∷ line (positions (k8 ∷ k9 ∷ [])) (18 ∷ 9 ∷ [])
+    ∷ line (positions (k9 ∷ [])) (23 ∷ 9 ∷ [])
+    ∷ line (map (λ (t : Step). t .amount) way) (9 ∷ 4 ∷ 3 ∷ 2 ∷ [])
+    ∷ line (map (λ (t : Step). t .kind) way) (1 ∷ 2 ∷ 1 ∷ 0 ∷ [])
+    ∷ []
+
+-- EVERY LINE IS AS PRINTED
+pub table-holds : map (λ (l : Line). l .computed) table ≡ map (λ (l : Line). l .printed) table
+unfolding position levelOf walk
+table-holds = refl
+
+-- the positions of the nodes of key 9, value and path, are those of Table 3
+pub way-positions : map (λ (t : Step). t .positions) way ≡ (5 ∷ 2 ∷ []) ∷ (7 ∷ 10 ∷ []) ∷ (7 ∷ 14 ∷ []) ∷ (9 ∷ 18 ∷ []) ∷ []
+unfolding levelOf walk
+way-positions = refl
+
+-- Table 5, as a trie. Below (00 00 00 00, /), partitioned by V, are
+-- (5D A8, Sources/), by path into sources; (5E, fs/ext), a leaf; (5F BD, ε), by path into last-year
 abbrev pub sche : Forest
 sche =
     leaf (pair (0x94 ∷ 0x8C ∷ []) (ended "ma.go")) (entry [] [] r3 ∷ [])
@@ -123,7 +148,7 @@ sources =
 
 abbrev pub last-year : Forest
 last-year =
-    leaf (pair (0x8D ∷ 0xC4 ∷ []) (text "crypto/ecc.")) (entry [] (ended "h") r2 ∷ entry [] (ended "c") r2 ∷ [])
+    leaf (pair (0x8D ∷ 0xC4 ∷ []) (text "crypto/ecc.")) (entry [] (ended "c") r2 ∷ entry [] (ended "h") r2 ∷ [])
     (leaf (pair (0x3D ∷ 0x5A ∷ []) (ended "fs/ext4/inode.c")) (entry [] [] r6 ∷ [])
     none)
 
@@ -131,22 +156,10 @@ abbrev pub years : Forest
 years =
     inner 1 (pair (0x5D ∷ 0xA8 ∷ []) (text "Sources/")) sources
     (leaf (pair (0x5E ∷ []) (text "fs/ext"))
-    (entry (0xF2 ∷ 0x9C ∷ 0x59 ∷ []) (ended "3/inode.c") r4 ∷ entry (0xBD ∷ 0x23 ∷ 0xC2 ∷ []) (ended "4/inode.h") r5 ∷ [])
+    (entry (0xBD ∷ 0x23 ∷ 0xC2 ∷ []) (ended "4/inode.h") r5 ∷ entry (0xF2 ∷ 0x9C ∷ 0x59 ∷ []) (ended "3/inode.c") r4 ∷ [])
     (inner 1 (pair (0x5F ∷ 0xBD ∷ []) []) last-year
     none))
 
-pub table5 : levelOf 2 2 nine ≡ inner 0 (pair (0 ∷ 0 ∷ 0 ∷ 0 ∷ []) (text "/")) years none
+pub table5 : levelOf 2 2 rows ≡ inner 0 (pair (0 ∷ 0 ∷ 0 ∷ 0 ∷ []) (text "/")) years none
 unfolding levelOf
 table5 = refl
-
--- P4: the sets of key 9 have 9, 4, 3 and 2 keys, parted by V, path, V, then a leaf
-pub p4 : (map (λ (t : Step). t .amount) (walk (start 2) (levelOf 2 2 nine) k9) ≡ 9 ∷ 4 ∷ 3 ∷ 2 ∷ [])
-    × (map (λ (t : Step). t .kind) (walk (start 2) (levelOf 2 2 nine) k9) ≡ 1 ∷ 2 ∷ 1 ∷ 0 ∷ [])
-unfolding levelOf walk
-p4 = (refl, refl)
-
--- its positions at each node, value and path, are those of Table 3
-pub p4-positions : map (λ (t : Step). t .positions) (walk (start 2) (levelOf 2 2 nine) k9)
-    ≡ (5 ∷ 2 ∷ []) ∷ (7 ∷ 10 ∷ []) ∷ (7 ∷ 14 ∷ []) ∷ (9 ∷ 18 ∷ []) ∷ []
-unfolding levelOf walk
-p4-positions = refl

@@ -1,0 +1,105 @@
+-- Small tries node by node: the three additions of document 01's listing, and every case of the branching dimension.
+use mathlib.Core.Path.{_≡_, refl}
+use Prim.Native.Nat.{ℕ}
+use Prim.Native.String.{String}
+use mathlib.Core.Bool.{Bool, true, false}
+use mathlib.Core.List.{List, [], _∷_, _++_}
+use Rattle.trie_theory.specs.Forest.{Strings, Key, Forest, none, leaf, inner}
+use Rattle.trie_theory.specs.Dimensions.{root}
+use Rattle.trie_theory.specs.SmallTrie.{smallTrie}
+use Rattle.trie_theory.specs.Lookup.{member}
+use Rattle.trie_theory.specs.Worked.{text, ended, value, reference, pair, entry}
+
+-- six zero bytes, a value's first
+abbrev pub six : List ℕ
+six = 0 ∷ 0 ∷ 0 ∷ 0 ∷ 0 ∷ 0 ∷ []
+
+-- a key with a value below 65536 and a reference that is told by its first byte
+abbrev pub key : ℕ → ℕ → String → ℕ → Key
+key a b path r = entry (six ++ (a ∷ b ∷ [])) (ended path) (reference r 0 0 0 0)
+
+-- a leaf with one such reference
+abbrev pub one : List ℕ → List ℕ → ℕ → Forest → Forest
+one v p r more = leaf (pair v p) (entry [] [] (reference r 0 0 0 0) ∷ []) more
+
+-- the listing: 7 /north/pond, 7 /north/edge, 9 /south/edge
+abbrev pub pond : Key
+pond = key 0 7 "/north/pond" 1
+
+abbrev pub edge : Key
+edge = key 0 7 "/north/edge" 1
+
+abbrev pub south : Key
+south = key 0 9 "/south/edge" 2
+
+-- one leaf takes the whole key
+pub one-leaf : smallTrie (pond ∷ []) ≡ one (six ++ (0 ∷ 7 ∷ [])) (ended "/north/pond") 1 none
+unfolding smallTrie
+one-leaf = refl
+
+-- only the paths differ: the parent branches there and takes the whole value
+pub path-differs :
+    smallTrie (pond ∷ edge ∷ [])
+    ≡ inner 1 (pair (six ++ (0 ∷ 7 ∷ [])) (text "/north/")) (one [] (ended "edge") 1 (one [] (ended "pond") 1 none)) none
+unfolding smallTrie
+path-differs = refl
+
+-- both differ at the root: it branches in V
+pub both-at-root :
+    smallTrie (pond ∷ edge ∷ south ∷ [])
+    ≡ inner 0 (pair (six ++ (0 ∷ [])) (text "/"))
+    (inner 1 (pair (7 ∷ []) (text "north/")) (one [] (ended "edge") 1 (one [] (ended "pond") 1 none))
+    (one (9 ∷ []) (ended "south/edge") 2
+    none)) none
+unfolding smallTrie
+both-at-root = refl
+
+-- the same path and value with another reference: the leaf takes it last
+pub one-more-reference :
+    smallTrie (pond ∷ edge ∷ key 0 7 "/north/pond" 9 ∷ [])
+    ≡ inner 1 (pair (six ++ (0 ∷ 7 ∷ [])) (text "/north/"))
+    (one [] (ended "edge") 1
+    (leaf (pair [] (ended "pond")) (entry [] [] (reference 1 0 0 0 0) ∷ entry [] [] (reference 9 0 0 0 0) ∷ [])
+    none)) none
+unfolding smallTrie
+one-more-reference = refl
+
+-- both differ below a node that branches in V: the new parent branches in the path
+pub both-below-value :
+    smallTrie (key 1 1 "/a" 1 ∷ key 2 1 "/b" 2 ∷ key 1 2 "/c" 3 ∷ [])
+    ≡ inner 0 (pair six (text "/"))
+    (inner 1 (pair (1 ∷ []) []) (one (1 ∷ []) (ended "a") 1 (one (2 ∷ []) (ended "c") 3 none))
+    (one (2 ∷ 1 ∷ []) (ended "b") 2
+    none)) none
+unfolding smallTrie
+both-below-value = refl
+
+-- the root is split in the path alone: its old node keeps no byte of the value
+abbrev pub path-split : List Key
+path-split = key 1 1 "/a/x" 1 ∷ key 2 1 "/a/y" 2 ∷ key 1 1 "/b/z" 3 ∷ []
+
+abbrev pub old-node : Forest → Forest
+old-node more = inner 0 (pair [] (text "a/")) (one (1 ∷ 1 ∷ []) (ended "x") 1 (one (2 ∷ 1 ∷ []) (ended "y") 2 none)) more
+
+pub old-keeps-nothing :
+    smallTrie path-split ≡ inner 1 (pair six (text "/")) (old-node (one (1 ∷ 1 ∷ []) (ended "b/z") 3 none)) none
+unfolding smallTrie
+old-keeps-nothing = refl
+
+-- both differ below a node that branches in the path: the new parent branches in V
+pub both-below-path :
+    smallTrie (path-split ++ (key 1 2 "/b/w" 4 ∷ []))
+    ≡ inner 1 (pair six (text "/"))
+    (old-node
+    (inner 0 (pair (1 ∷ []) (text "b/")) (one (1 ∷ []) (ended "z") 3 (one (2 ∷ []) (ended "w") 4 none))
+    none)) none
+unfolding smallTrie
+both-below-path = refl
+
+-- the lookup walks to what was added, with its reference, and to nothing else
+pub looked-up :
+    (member root (smallTrie (pond ∷ edge ∷ south ∷ [])) edge ≡ true)
+    × (member root (smallTrie (pond ∷ edge ∷ south ∷ [])) (key 0 7 "/north/edge" 2) ≡ false)
+    × (member root (smallTrie (pond ∷ edge ∷ [])) south ≡ false)
+unfolding smallTrie member
+looked-up = (refl, refl, refl)
