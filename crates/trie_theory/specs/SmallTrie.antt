@@ -62,24 +62,30 @@ split above node s x more =
     let d = differing above (strip p s) in
     inner d p (two d node (strip p s) (remains p x)) more
 
--- x at a node with the strings s before its later siblings. Where x has its byte: `deeper` if all strings agree, else the
--- node is split. Else: a leaf before this node and all later ones, if its byte is below theirs, or x goes to the later ones
-unfoldable pub put : Above → Key → (Strings → Forest → Forest) → Strings → Forest → Forest → Forest → Forest
-unfolding meets goesOn split ahead alone
-put above x node s deeper more later =
-    cond (meets above s (x .strings))
-    (cond (goesOn s (x .strings)) deeper (split above node s x more))
-    (cond (ahead above (x .strings) (node s more)) (alone x (node s more)) (node s later))
+-- What befalls a key with the strings k at a node with the strings s, the first of the tries f: it has the node's byte and
+-- agrees with all its strings, or differs; or its byte is below those of all tries of f; or none of these
+unfoldable pub outcome : {A : Type 0} → Above → Strings → Forest → Strings → A → A → A → A → A
+unfolding meets goesOn ahead
+outcome above s f k agrees differs before later =
+    cond (meets above s k) (cond (goesOn s k) agrees differs) (cond (ahead above k f) before later)
 
 -- Tries with the key x added. Where all agrees a leaf takes the reference, last, and an inner node passes on what remains
--- of the key; where no child has the byte, a leaf is added
+-- of the key; a node that differs is split; where no child has the byte, a leaf is added
 unfoldable pub added : Above → Forest → Key → Forest
-unfolding alone put remains
+unfolding alone outcome remains split
 added above none x = alone x none
 added above (leaf s ts more) x =
-    put above x (λ s′ m. leaf s′ ts m) s (leaf s (ts ++ (remains s x ∷ [])) more) more (added above more x)
+    outcome above s (leaf s ts more) (x .strings)
+    (leaf s (ts ++ (remains s x ∷ [])) more)
+    (split above (λ s′ m. leaf s′ ts m) s x more)
+    (alone x (leaf s ts more))
+    (leaf s ts (added above more x))
 added above (inner d s kids more) x =
-    put above x (λ s′ m. inner d s′ kids m) s (inner d s (added (below d) kids (remains s x)) more) more (added above more x)
+    outcome above s (inner d s kids more) (x .strings)
+    (inner d s (added (below d) kids (remains s x)) more)
+    (split above (λ s′ m. inner d s′ kids m) s x more)
+    (alone x (inner d s kids more))
+    (inner d s kids (added above more x))
 
 -- keys added in their sequence
 unfoldable pub grown : Forest → List Key → Forest
