@@ -4,3 +4,6 @@ pub mod Prefix
 pub mod Strings
 pub mod Round
 pub mod Parts
+pub mod LevelStep
+pub mod LevelKept
+pub mod LevelSound
