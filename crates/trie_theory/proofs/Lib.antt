@@ -7,3 +7,5 @@ pub mod Parts
 pub mod LevelStep
 pub mod LevelKept
 pub mod LevelSound
+pub mod Keys
+pub mod Search
