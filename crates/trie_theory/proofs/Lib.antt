@@ -9,3 +9,4 @@ pub mod LevelKept
 pub mod LevelSound
 pub mod Keys
 pub mod Search
+pub mod SoundLaws

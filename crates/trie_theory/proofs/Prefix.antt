@@ -63,7 +63,7 @@ unfolding Prefix
 prefix-append [] s = tt
 prefix-append (a ∷ p) s = (refl, prefix-append p s)
 
-prefix-refl : (s : List ℕ) → Prefix s s
+pub prefix-refl : (s : List ℕ) → Prefix s s
 unfolding Prefix
 prefix-refl [] = tt
 prefix-refl (a ∷ s) = (refl, prefix-refl s)

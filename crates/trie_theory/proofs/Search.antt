@@ -12,7 +12,7 @@ use Rattle.trie_theory.specs.Dimensions.{Above, root, below}
 use Rattle.trie_theory.specs.Search.{branch, enters, nodesEntered, found}
 use Rattle.trie_theory.specs.Size.{nodes}
 use Rattle.trie_theory.proofs.Lists.{pick-append, not-true}
-use Rattle.trie_theory.proofs.Prefix.{Prefix, Prefixes, From, prefixes-goesOn, prefixes-refl, prefixes-join, prefixes-trans, prefix-append}
+use Rattle.trie_theory.proofs.Prefix.{Prefix, Prefixes, From, prefixes-goesOn, prefix-refl, prefixes-refl, prefixes-join, prefixes-trans, prefix-append}
 use Rattle.trie_theory.proofs.Keys.{from-under, all-keys}
 
 prefix-more : (k : List ℕ) (b : ℕ) (s : List ℕ) → Prefix (k ++ (b ∷ [])) (k ++ (b ∷ s))
@@ -35,7 +35,7 @@ known-branch d [] s = tt
 known-branch d (k ∷ ks) [] = prefixes-refl (k ∷ ks)
 known-branch zero (k ∷ ks) ([] ∷ ss) = prefixes-refl (k ∷ ks)
 known-branch zero (k ∷ ks) ((b ∷ s) ∷ ss) = (prefix-append k (b ∷ []), prefixes-refl ks)
-known-branch (suc d) (k ∷ ks) (s ∷ ss) = let r = prefixes-refl (k ∷ []) in (r .0, known-branch d ks ss)
+known-branch (suc d) (k ∷ ks) (s ∷ ss) = (prefix-refl k, known-branch d ks ss)
 
 module _ (reach : Strings → Bool) (matching : Key → Bool)
     (sees : (k : Strings) (x : Key) → goesOn k (x .strings) ≡ true → matching x ≡ true → reach k ≡ true) where

@@ -10,6 +10,7 @@ use lib.ListN.{length}
 use lib.Dec.{ltb}
 use borrow.Author.Tests.{lt-ltb}
 use Rattle.trie_theory.specs.Lists.{All, nil, cons, any, pick, sum}
+use Rattle.trie_theory.proofs.Lists.{all-imp}
 
 module _ {A : Type 0} (h : A → ℕ) where
   pub sum-append : (xs ys : List A) → sum h (xs ++ ys) ≡ sum h xs + sum h ys
@@ -48,6 +49,12 @@ pub sum-below : {A : Type 0} (h g : A → ℕ) {xs : List A} → All (λ x. h x 
 unfolding sum
 sum-below h g nil = omega arith
 sum-below h g (cons e a) = let r = sum-below h g a in omega arith
+
+-- more by a in each is more by a in all, where there is one
+pub sum-more : {A : Type 0} (a : ℕ) (h g : A → ℕ) {xs : List A} → 1 ≤ length xs → All (λ x. a + h x ≤ g x) xs → a + sum h xs ≤ sum g xs
+unfolding sum
+sum-more a h g l nil = absurd (omega arith)
+sum-more a h g l (cons {xs = xs} e r) = omega (arith, sum-below h g (all-imp (λ x m. omega arith) r))
 
 -- the sum is 0: it is 0 for each
 pub sum-zero : {A : Type 0} (h : A → ℕ) (xs : List A) → sum h xs ≡ 0 → All (λ x. h x ≡ 0) xs
