@@ -10,3 +10,5 @@ pub mod LevelSound
 pub mod Keys
 pub mod Search
 pub mod SoundLaws
+pub mod Branching
+pub mod Lookup
