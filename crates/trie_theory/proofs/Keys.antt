@@ -3,9 +3,10 @@ use mathlib.Core.Path.{_≡_, refl, sym, ap, ap₂, _∙_}
 use mathlib.Core.List.{List, [], _∷_, _++_, map}
 use Rattle.trie_theory.specs.Forest.{Strings, Key, Forest, none, leaf, inner, join, under, keys}
 use Rattle.trie_theory.specs.Lists.{All, nil}
+use Rattle.trie_theory.specs.Strings.{remains}
 use Rattle.trie_theory.proofs.Lists.{all-append, all-map, all-every, all-imp, map-append}
 use Rattle.trie_theory.proofs.Prefix.{From, prefixes-join, prefixes-trans}
-use Rattle.trie_theory.proofs.Strings.{join-assoc, join-nil}
+use Rattle.trie_theory.proofs.Strings.{join-assoc, join-nil, join-strip}
 
 -- bytes known in two steps
 pub under-join : (k s : Strings) (t : Key) → under (join k s) t ≡ under k (under s t)
@@ -42,3 +43,11 @@ unfolding keys
 all-keys k none = nil
 all-keys k (leaf s ts more) = all-append (from-join k s (from-under (join k s) ts)) (all-keys k more)
 all-keys k (inner d s kids more) = all-append (from-join k s (all-keys (join k s) kids)) (all-keys k more)
+
+-- what remains of a key behind p, below p, is the key
+pub under-remains : (p : Strings) (x : Key) → From p x → under p (remains p x) ≡ x
+unfolding under remains
+under-remains p x h = ap (λ (s : Strings). record { strings = s; reference = x .reference }) (join-strip p (x .strings) h)
+
+pub under-known : (k s : Strings) (x : Key) → From s x → under (join k s) (remains s x) ≡ under k x
+under-known k s x h = under-join k s (remains s x) ∙ ap (under k) (under-remains s x h)

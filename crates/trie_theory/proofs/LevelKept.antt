@@ -15,13 +15,9 @@ use Rattle.trie_theory.proofs.Lists.{all-imp, all-every}
 use Rattle.trie_theory.proofs.Sums.{sum-append}
 use Rattle.trie_theory.proofs.Prefix.{Prefixes, From, shared-all, shared-greatest}
 use Rattle.trie_theory.proofs.Strings.{join-strip}
+use Rattle.trie_theory.proofs.Keys.{under-remains}
 use Rattle.trie_theory.proofs.Parts.{Parted, done, part, parted, sum-parts}
 use Rattle.trie_theory.proofs.LevelStep.{choice-differ}
-
--- what remains of a key behind p, below p, is the key
-pub under-remains : (p : Strings) (x : Key) → From p x → under p (remains p x) ≡ x
-unfolding under remains
-under-remains p x h = ap (λ (s : Strings). record { strings = s; reference = x .reference }) (join-strip p (x .strings) h)
 
 unders : (p : Strings) {ks : List Key} → All (From p) ks → map (under p) (map (remains p) ks) ≡ ks
 unders p nil = refl

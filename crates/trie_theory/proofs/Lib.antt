@@ -12,3 +12,5 @@ pub mod Search
 pub mod SoundLaws
 pub mod Branching
 pub mod Lookup
+pub mod SmallStep
+pub mod SmallKept

@@ -18,8 +18,7 @@ use Rattle.trie_theory.proofs.Lists.{In, and-left, and-right, and-both,
 use Rattle.trie_theory.proofs.Prefix.{prefixes-goesOn, goesOn-prefixes, prefixes-join}
 use Rattle.trie_theory.proofs.Strings.{strip-join, length-strip}
 use Rattle.trie_theory.proofs.Branching.{branching-prefix, meets-true, meets-false, meets-apart}
-use Rattle.trie_theory.proofs.Keys.{keys-from}
-use Rattle.trie_theory.proofs.LevelKept.{under-remains}
+use Rattle.trie_theory.proofs.Keys.{keys-from, under-remains}
 use Rattle.trie_theory.proofs.SoundLaws.{wide-keys}
 
 -- the test of equal keys is right, both ways

@@ -1,9 +1,11 @@
--- How large tries are: bytes, nodes, and nodes one below the other.
+-- How large tries are: bytes, nodes, nodes one below the other, and the bytes that an addition adds.
 use Prim.Native.Nat.{ℕ, suc, _+_, max}
 use mathlib.Core.List.{List}
 use Rattle.trie_theory.specs.Forest.{Key, Forest, none, leaf, inner}
 use Rattle.trie_theory.specs.Lists.{sum}
-use Rattle.trie_theory.specs.Strings.{total}
+use Rattle.trie_theory.specs.Strings.{commons, strip, remains, total}
+use Rattle.trie_theory.specs.Dimensions.{Above, below}
+use Rattle.trie_theory.specs.SmallTrie.{outcome}
 
 -- The bytes, where a node costs h beside its strings and a suffix u: in n dimensions h is 5 + n and u 20 + n
 unfoldable pub cost : ℕ → ℕ → Forest → ℕ
@@ -23,3 +25,21 @@ unfoldable pub height : Forest → ℕ
 height none = 0
 height (leaf s ts more) = max 1 (height more)
 height (inner d s kids more) = max (suc (height kids)) (height more)
+
+-- The bytes by which the addition of x makes tries longer: a suffix, or a leaf and a new parent, or a leaf, each with what
+-- remains of the key there
+unfoldable pub growth : ℕ → ℕ → Above → Forest → Key → ℕ
+unfolding outcome total strip commons remains
+growth h u above none x = h + u + total (x .strings)
+growth h u above (leaf s ts more) x =
+    outcome above s (leaf s ts more) (x .strings)
+    (u + total (strip s (x .strings)))
+    (h + h + u + total (strip (commons s (x .strings)) (x .strings)))
+    (h + u + total (x .strings))
+    (growth h u above more x)
+growth h u above (inner d s kids more) x =
+    outcome above s (inner d s kids more) (x .strings)
+    (growth h u (below d) kids (remains s x))
+    (h + h + u + total (strip (commons s (x .strings)) (x .strings)))
+    (h + u + total (x .strings))
+    (growth h u above more x)
