@@ -14,3 +14,4 @@ pub mod Branching
 pub mod Lookup
 pub mod SmallStep
 pub mod SmallKept
+pub mod Free
