@@ -15,3 +15,4 @@ pub mod Lookup
 pub mod SmallStep
 pub mod SmallKept
 pub mod Free
+pub mod SmallSound
