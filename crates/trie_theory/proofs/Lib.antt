@@ -16,3 +16,5 @@ pub mod SmallStep
 pub mod SmallKept
 pub mod Free
 pub mod SmallSound
+pub mod Complete
+pub mod SmallBare

@@ -14,3 +14,4 @@ pub mod Encode
 pub mod Size
 pub mod Worked
 pub mod WorkedSmall
+pub mod Entries
