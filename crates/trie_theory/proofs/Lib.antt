@@ -18,3 +18,4 @@ pub mod Free
 pub mod SmallSound
 pub mod Complete
 pub mod SmallBare
+pub mod Encode
