@@ -19,3 +19,4 @@ pub mod SmallSound
 pub mod Complete
 pub mod SmallBare
 pub mod Encode
+pub mod Right

@@ -15,3 +15,4 @@ pub mod Size
 pub mod Worked
 pub mod WorkedSmall
 pub mod Entries
+pub mod Right
