@@ -20,3 +20,5 @@ pub mod Complete
 pub mod SmallBare
 pub mod Encode
 pub mod Right
+pub mod Differ
+pub mod Fall
