@@ -1,19 +1,19 @@
 -- Why a builder ends: the undecided bytes of a set, those behind what its keys share, fall from a set to each of its parts.
 use Prim.Native.Nat.{ℕ, _+_, _≤_, _<_}
-use mathlib.Core.Path.{_≡_, refl}
+use mathlib.Core.Path.{_≡_}
 use mathlib.Core.Bool.{true}
-use mathlib.Core.List.{List, [], _∷_, _++_}
+use mathlib.Core.List.{List, _∷_, _++_}
 use native.Mathlib.Omega.{arith}
 use lib.ListN.{length}
 use Rattle.trie_theory.specs.Forest.{Strings, Key}
 use Rattle.trie_theory.specs.Lists.{All, nil, cons, sum, flat}
-use Rattle.trie_theory.specs.Strings.{strip, at, total}
+use Rattle.trie_theory.specs.Strings.{strip, total}
 use Rattle.trie_theory.specs.Position.{shared, differ}
 use Rattle.trie_theory.specs.Parts.{parts}
 use Rattle.trie_theory.proofs.Lists.{all-imp}
 use Rattle.trie_theory.proofs.Sums.{sum-append, sum-more}
 use Rattle.trie_theory.proofs.Prefix.{From, shared-all}
-use Rattle.trie_theory.proofs.Strings.{total-strip-strip, first-some, at-total}
+use Rattle.trie_theory.proofs.Strings.{total-strip-strip, first-some, some-total}
 use Rattle.trie_theory.proofs.Parts.{Parted, done, part, parted, part-first, part-from, differ-inside, sum-parts}
 
 -- the bytes of keys behind k
@@ -24,13 +24,6 @@ behind k ks = sum (λ x. total (strip k (x .strings))) ks
 unfoldable pub undecided : List Key → ℕ
 unfolding behind
 undecided ks = behind (shared ks) ks
-
-some-total : (d : ℕ) (s : Strings) → (at d s ≡ [] → ⊥) → 1 ≤ total s
-some-total d s h = go (at d s) h (at-total d s)
-  where
-    go : (l : List ℕ) → (l ≡ [] → ⊥) → length l ≤ total s → 1 ≤ total s
-    go [] h m = absurd (h refl)
-    go (b ∷ l) h m = omega arith
 
 module _ (d : ℕ) (p : Strings) (inside : d < length p) where
   -- each part has fewer bytes behind its own shared bytes than all parts have behind p

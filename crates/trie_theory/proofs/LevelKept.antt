@@ -58,6 +58,12 @@ module _ (n τ : ℕ) (h : Key → ℕ) where
       (λ d e. each-sum (grow n τ f (below d) (shared ks)) (grow-sum f (below d) (shared ks)) (parted (From (shared ks)) d (shared-all ks))
       ∙ sum-parts h d ks (choice-differ n τ above ks d e))
 
+  -- the children of a set have its keys
+  pub kids-sum : (f : ℕ) (above : Above) (d : ℕ) (ks : List Key) → choice n τ above ks ≡ some d → sum h (keys (shared ks) (children n τ f ks d)) ≡ sum h ks
+  kids-sum f above d ks e =
+      each-sum (grow n τ f (below d) (shared ks)) (grow-sum f (below d) (shared ks)) (parted (From (shared ks)) d (shared-all ks))
+      ∙ sum-parts h d ks (choice-differ n τ above ks d e)
+
   pub level-sum : (ks : List Key) → sum h (keys [] (levelOf n τ ks)) ≡ sum h ks
   unfolding levelOf trie keys sum Prefixes
   level-sum [] = refl

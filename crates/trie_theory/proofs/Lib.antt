@@ -22,3 +22,5 @@ pub mod Encode
 pub mod Right
 pub mod Differ
 pub mod Fall
+pub mod Walk
+pub mod LevelWalk

@@ -15,7 +15,7 @@ use Rattle.trie_theory.specs.Size.{cost, nodes, height}
 use Rattle.trie_theory.proofs.Lists.{all-append, all-left, all-right, all-map, all-unmap, all-head, all-every, all-imp}
 use Rattle.trie_theory.proofs.Sums.{sum-append, sum-map, sum-more, sum-most}
 use Rattle.trie_theory.proofs.Prefix.{From, Prefixes, prefixes-join, prefixes-trans}
-use Rattle.trie_theory.proofs.Strings.{join-assoc, join-strip, length-join, total-join, total-strip, total-strip-strip, at-total}
+use Rattle.trie_theory.proofs.Strings.{join-assoc, join-strip, length-join, total-join, total-strip, total-strip-strip, some-total}
 use Rattle.trie_theory.proofs.Keys.{from-under, all-keys, keys-from}
 
 -- the strings of the first trie
@@ -88,11 +88,7 @@ spare (below d) = 0
 starts-byte : (above : Above) (s : Strings) → Starts above s → 1 ≤ total s + spare above
 unfolding Starts spare
 starts-byte root s h = omega arith
-starts-byte (below d) s h = go (at d s) h (at-total d s)
-  where
-    go : (l : List ℕ) → (l ≡ [] → ⊥) → length l ≤ total s → 1 ≤ total s + 0
-    go [] h m = absurd (h refl)
-    go (b ∷ l) h m = omega arith
+starts-byte (below d) s h = omega (arith, some-total d s h)
 
 -- the bytes known at a node are no more than its keys have
 known-fits : (m n : ℕ) (above : Above) (k : Strings) (f : Forest) → Sound n above f → 1 ≤ length (tops f)

@@ -129,6 +129,13 @@ at-total d [] = omega arith
 at-total zero (s ∷ ss) = omega arith
 at-total (suc d) (s ∷ ss) = let r = at-total d ss in omega arith
 
+pub some-total : (d : ℕ) (s : Strings) → (at d s ≡ [] → ⊥) → 1 ≤ total s
+some-total d s h = go (at d s) h (at-total d s)
+  where
+    go : (l : List ℕ) → (l ≡ [] → ⊥) → length l ≤ total s → 1 ≤ total s
+    go [] h m = absurd (h refl)
+    go (b ∷ l) h m = omega arith
+
 pub total-join : (p s : Strings) → total (join p s) ≡ total p + total s
 unfolding join total
 total-join [] s = omega arith
