@@ -49,7 +49,7 @@ module _ (n τ : ℕ) (above : Above) (ks : List Key) where
   choice-none l h m d u = turn-none (λ d. differ d ks) n above l (rw (lt-ltb τ (length ks) m) at h) d u
 
 -- no keys are not partitioned
-choice-empty : (n τ : ℕ) (above : Above) → choice n τ above [] ≡ none
+pub choice-empty : (n τ : ℕ) (above : Above) → choice n τ above [] ≡ none
 unfolding choice
 choice-empty n τ above = rw (le-ltb τ 0 (omega arith))
 

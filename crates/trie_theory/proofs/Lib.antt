@@ -24,3 +24,4 @@ pub mod Differ
 pub mod Fall
 pub mod Walk
 pub mod LevelWalk
+pub mod Route
