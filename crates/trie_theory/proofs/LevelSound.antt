@@ -111,8 +111,7 @@ module _ (n τ : ℕ) where
       let p = shared ks in
       node-well above k x xs (choice n τ above ks) (children n τ f ks) more w s b m
       (λ d e. let q = choice-differ n τ above ks d e in
-      let i = differ-inside d x xs q in
-      (
+      let i = differ-inside d x xs q in (
         (let t = parts-two d x xs q in omega (arith, each-two f d p i (parts d ks))),
         each-well f d p i (grow-well f (below d) p) (parted (λ y. From p y × Wide n y) d (all-both (shared-all ks) w)),
       ))

@@ -73,8 +73,11 @@ unfolding added Bare alone Sound keys join remains
 bare-added n above none x h b held = (cons {x = remains (x .strings) x} (strip-self (x .strings)) nil, tt)
 bare-added n above (leaf s ts more) x h b held =
     added-leaf Bare above s ts more x
-    (λ m g. (all-append (b .0) (cons {x = remains s x}
-    (leaf-ends s ts x (goesOn-prefixes s (x .strings) g) (h .1) (b .0) (all-left (map (under s) ts) (keys [] more) held)) nil), b .1))
+    (λ m g. (
+      all-append (b .0) (cons {x = remains s x}
+          (leaf-ends s ts x (goesOn-prefixes s (x .strings) g) (h .1) (b .0) (all-left (map (under s) ts) (keys [] more) held)) nil),
+      b .1,
+    ))
     (λ m g. split-bare (λ s′ more′. leaf s′ ts more′) (λ s′ more′ r. (b .0, r)) above s x more (b .1))
     (λ m a. (cons {x = remains (x .strings) x} (strip-self (x .strings)) nil, b))
     (λ m a. (b .0, bare-added n above more x (h .3) (b .1) (all-right (map (under s) ts) (keys [] more) held)))

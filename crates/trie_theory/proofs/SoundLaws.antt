@@ -146,12 +146,12 @@ module _ (h u n : ℕ) where
         sum-append (share h u k) (map (under (join k s)) ts) (keys k more),
         sum-map (share h u k) (under (join k s)) ts,
         sum-more (h + h + total s) (λ t. u + total (t .strings)) (λ t. share h u k (under (join k s) t)) (w .1)
-        (all-every ts (λ t. omega (
-          arith,
-          total-strip k (join (join k s) (t .strings)) (prefixes-trans k (join k s) (join (join k s) (t .strings)) (prefixes-join k s) (prefixes-join (join k s) (t .strings))),
-          total-join k s,
-          total-join (join k s) (t .strings),
-        ))),
+            (all-every ts (λ t. omega (
+              arith,
+              total-strip k (join (join k s) (t .strings)) (prefixes-trans k (join k s) (join (join k s) (t .strings)) (prefixes-join k s) (prefixes-join (join k s) (t .strings))),
+              total-join k s,
+              total-join (join k s) (t .strings),
+            ))),
       )
   cost-known above k (inner d s kids more) w =
       omega (
@@ -161,13 +161,13 @@ module _ (h u n : ℕ) where
         cost-known above k more (w .3),
         sum-append (share h u k) (keys (join k s) kids) (keys k more),
         sum-more (total s) (share h u (join k s)) (share h u k)
-        (omega (arith, w .1, keys-many n (below d) (join k s) kids (w .2)))
-        (all-imp (λ x e. omega (
-          arith,
-          total-strip-strip k (join k s) (x .strings) (prefixes-join k s) e,
-          total-strip k (join k s) (prefixes-join k s),
-          total-join k s,
-        )) (all-keys (join k s) kids)),
+            (omega (arith, w .1, keys-many n (below d) (join k s) kids (w .2)))
+            (all-imp (λ x e. omega (
+              arith,
+              total-strip-strip k (join k s) (x .strings) (prefixes-join k s) e,
+              total-strip k (join k s) (prefixes-join k s),
+              total-join k s,
+            )) (all-keys (join k s) kids)),
       )
 
   -- THE BYTES of keys of at most m bytes

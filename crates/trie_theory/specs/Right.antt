@@ -19,18 +19,14 @@ pub record TrieOf (n m : ℕ) (xs : List Key) (t : Forest) : Type 0 where
   -- each child begins with its branching byte, siblings differ in it and ascend, inner nodes have two or more children
   pub sound : Sound n root t
   pub ascending : Ascending root t
-
   -- nothing is lost or added: as many keys of t as of xs pass any test, so each key stands there as often
   pub kept : (p : Key → Bool) → count p (keys [] t) ≡ count p xs
-
   -- a key is found by walking down with its bytes exactly if it is one of xs
   pub lookup : (x : Key) → member root t x ≡ among x xs
-
   -- where `reach` holds of whatever a key that matches goes on from, a search finds the keys that match, each as often
   pub search : (reach : Strings → Bool) (matching : Key → Bool) →
       ((k : Strings) (x : Key) → goesOn k (x .strings) ≡ true → matching x ≡ true → reach k ≡ true) →
       (p : Key → Bool) → count p (found reach matching root [] t) ≡ count p (pick matching xs)
-
   -- of N keys: at most 2 N - 1 nodes, at most m + 1 one below the other, and so many bytes
   pub few : nodes t + length (tops t) ≤ 2 * length xs
   pub high : height t ≤ suc m

@@ -13,6 +13,7 @@ use Rattle.trie_theory.specs.Level.{levelOf}
 use Rattle.trie_theory.specs.SmallTrie.{smallTrie}
 use Rattle.trie_theory.specs.Lookup.{member}
 use Rattle.trie_theory.specs.Walk.{Step, walk}
+
 -- the bytes of a text
 abbrev pub text : String → List ℕ
 text String.[] = []

@@ -2,12 +2,16 @@
 use mathlib.Core.Path.{_≡_, refl}
 use Prim.Native.Nat.{ℕ}
 use Prim.Native.String.{String}
-use mathlib.Core.Bool.{Bool, true, false}
+use mathlib.Core.Bool.{Bool, true, false, not, _&&_, _||_}
 use mathlib.Core.List.{List, [], _∷_, _++_}
+use lib.Dec.{eqb}
 use Rattle.trie_theory.specs.Forest.{Strings, Key, Forest, none, leaf, inner}
 use Rattle.trie_theory.specs.Dimensions.{root}
 use Rattle.trie_theory.specs.SmallTrie.{smallTrie}
-use Rattle.trie_theory.specs.Lookup.{member}
+use Rattle.trie_theory.specs.Lists.{any, same}
+use Rattle.trie_theory.specs.Strings.{begins, at}
+use Rattle.trie_theory.specs.Lookup.{sameKey, member}
+use Rattle.trie_theory.specs.Search.{found, nodesEntered}
 use Rattle.trie_theory.specs.Worked.{text, ended, value, reference, pair, entry}
 
 -- six zero bytes, a value's first
@@ -103,3 +107,20 @@ pub looked-up :
     × (member root (smallTrie (pond ∷ edge ∷ [])) south ≡ false)
 unfolding smallTrie member
 looked-up = (refl, refl, refl)
+
+-- The search of the listing, 0 to 8 and a path that ends in /edge: bytes can be continued where the value begins one of 0 to 8
+-- and the path has not ended, or is the one that matches
+abbrev pub goes-on : Strings → Bool
+goes-on k =
+    any (λ v. begins (at 0 k) (value 0 0 0 v)) (0 ∷ 1 ∷ 2 ∷ 3 ∷ 4 ∷ 5 ∷ 6 ∷ 7 ∷ 8 ∷ [])
+    && (not (any (λ b. eqb b 0) (at 1 k)) || same eqb (at 1 k) (ended "/north/edge"))
+
+abbrev pub is-edge : Key → Bool
+is-edge x = sameKey x edge
+
+-- one row, and four nodes: the root, 07, and both below it
+pub searched :
+    (found goes-on is-edge root [] (smallTrie (pond ∷ edge ∷ south ∷ [])) ≡ edge ∷ [])
+    × (nodesEntered goes-on root [] (smallTrie (pond ∷ edge ∷ south ∷ [])) ≡ 4)
+unfolding smallTrie found nodesEntered any begins same sameKey
+searched = (refl, refl)
