@@ -1,11 +1,9 @@
 -- Laws of the branching byte: strings that begin with a node's have its byte, and what is passed by has another.
 use Prim.Native.Nat.{ℕ, zero}
-use mathlib.Core.Path.{_≡_, refl, sym, ap, _∙_}
-use mathlib.Core.Bool.{Bool, true, false}
-use mathlib.Core.List.{List, [], _∷_, _++_}
-use lib.ListN.{length, drop}
-use lib.Dec.{eqb}
-use borrow.Author.Tests.{eqb-true, eqb-false, eq-eqb, ne-eqb}
+use mathlib.Core.Path.{_≡_, refl, sym, _∙_}
+use mathlib.Core.Bool.{true, false}
+use mathlib.Core.List.{List, [], _∷_}
+use borrow.Author.Tests.{eqb-true, eqb-false, ne-eqb}
 use Rattle.trie_theory.specs.Forest.{Strings}
 use Rattle.trie_theory.specs.Strings.{at, first}
 use Rattle.trie_theory.specs.Dimensions.{Above, root, below, branching}
@@ -33,10 +31,6 @@ meets-true above s k e = eqb-true (branching above s) (branching above k) e
 pub meets-false : (above : Above) (s k : Strings) → meets above s k ≡ false → branching above s ≡ branching above k → ⊥
 unfolding meets
 meets-false above s k e = eqb-false (branching above s) (branching above k) e
-
-pub meets-same : (above : Above) (s k : Strings) → branching above s ≡ branching above k → meets above s k ≡ true
-unfolding meets
-meets-same above s k e = eq-eqb (branching above s) (branching above k) e
 
 pub meets-apart : (above : Above) (s k : Strings) → (branching above s ≡ branching above k → ⊥) → meets above s k ≡ false
 unfolding meets

@@ -51,7 +51,8 @@ free-at (cons {x = c} {xs = cs} h a) (k ∷ ks) (x ∷ xs) p q (suc d) u e =
     free-at a ks xs (and-right (c k) (complete cs ks) p) (and-right (c x) (complete cs xs) q) d u e
 
 -- COMPLETE KEYS ARE FREE of one another
-pub complete-free : {cs : List (List ℕ → Bool)} → All Stops cs → (x y : Key) → complete cs (x .strings) ≡ true → complete cs (y .strings) ≡ true → Free x y
+pub complete-free : {cs : List (List ℕ → Bool)} → All Stops cs → (x y : Key) → complete cs (x .strings) ≡ true
+    → complete cs (y .strings) ≡ true → Free x y
 unfolding Free
 complete-free h x y p q = free-at h (x .strings) (y .strings) p q
 

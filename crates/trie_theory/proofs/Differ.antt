@@ -13,9 +13,9 @@ use Rattle.trie_theory.specs.Forest.{Strings, Key}
 use Rattle.trie_theory.specs.Lists.{All, nil, cons}
 use Rattle.trie_theory.specs.Strings.{common, strip, at, first}
 use Rattle.trie_theory.specs.Position.{narrow, shared, position, byte, differ}
-use Rattle.trie_theory.specs.Entries.{complete, dims, Entry}
+use Rattle.trie_theory.specs.Entries.{Entry}
 use Rattle.trie_theory.proofs.Lists.{In, at-head, later, all-head, all-tail, all-imp, all-both, all-in}
-use Rattle.trie_theory.proofs.Prefix.{Prefix, From, shared-all, prefixes-at, prefix-trans}
+use Rattle.trie_theory.proofs.Prefix.{Prefix, shared-all, prefixes-at, prefix-trans}
 use Rattle.trie_theory.proofs.Strings.{drop-prefix, at-strip, first-at}
 use Rattle.trie_theory.proofs.Parts.{differ-all, differ-inside, part-first, first-self}
 use Rattle.trie_theory.proofs.Free.{Free, commons-at}
@@ -26,7 +26,8 @@ pub position-agree : (d : ℕ) (ks : List Key) → All (λ x. Prefix (at d (shar
 position-agree d ks = all-imp (λ x h. prefixes-at d (shared ks) (x .strings) h) (shared-all ks)
 
 -- AT IT, where they differ, no byte is the byte of all
-pub differ-apart : (d c : ℕ) (x : Key) (xs : List Key) → differ d (x ∷ xs) ≡ true → All (λ y. byte d (shared (x ∷ xs)) y ≡ c) (x ∷ xs) → ⊥
+pub differ-apart : (d c : ℕ) (x : Key) (xs : List Key) → differ d (x ∷ xs) ≡ true
+    → All (λ y. byte d (shared (x ∷ xs)) y ≡ c) (x ∷ xs) → ⊥
 differ-apart d c x xs e a =
     let p = shared (x ∷ xs) in
     let l = all-head (differ-all d (x ∷ xs) e) in
@@ -40,7 +41,8 @@ unfolding byte
 byte-at d p x = first-at d (strip p (x .strings)) ∙ ap (λ (l : List ℕ). first zero (l ∷ [])) (at-strip d p (x .strings))
 
 -- KEYS THAT DIFFER are not all equal there
-pub differ-true : (d : ℕ) (x : Key) (xs : List Key) → differ d (x ∷ xs) ≡ true → All (λ y. at d (y .strings) ≡ at d (x .strings)) (x ∷ xs) → ⊥
+pub differ-true : (d : ℕ) (x : Key) (xs : List Key) → differ d (x ∷ xs) ≡ true
+    → All (λ y. at d (y .strings) ≡ at d (x .strings)) (x ∷ xs) → ⊥
 differ-true d x xs e a =
     let p = shared (x ∷ xs) in
     differ-apart d (byte d p x) x xs e
@@ -64,7 +66,8 @@ ends [] (c ∷ s) h b l = absurd (let m = all-head b in omega arith)
 ends (a ∷ p) (c ∷ s) h b l = (sym (h .0), ends p s (h .1) (all-tail b) l)
 
 -- KEYS THAT DO NOT DIFFER, free of one another, are all equal there
-pub differ-false : (d : ℕ) (ks : List Key) → ((y z : Key) → In y ks → In z ks → Free y z) → All (λ x. All (λ b. b < 256) (at d (x .strings))) ks
+pub differ-false : (d : ℕ) (ks : List Key) → ((y z : Key) → In y ks → In z ks → Free y z)
+    → All (λ x. All (λ b. b < 256) (at d (x .strings))) ks
     → differ d ks ≡ false → (y z : Key) → In y ks → In z ks → at d (y .strings) ≡ at d (z .strings)
 unfolding differ Free
 differ-false d ks free b e y z i j =
@@ -86,7 +89,8 @@ bytes-at zero (cons h a) = h
 bytes-at (suc d) (cons h a) = bytes-at d a
 
 -- so for entries
-pub entries-equal : (d : ℕ) (ks : List Key) → All Entry ks → differ d ks ≡ false → (y z : Key) → In y ks → In z ks → at d (y .strings) ≡ at d (z .strings)
+pub entries-equal : (d : ℕ) (ks : List Key) → All Entry ks → differ d ks ≡ false → (y z : Key) → In y ks → In z ks
+    → at d (y .strings) ≡ at d (z .strings)
 entries-equal d ks a =
     differ-false d ks (λ y z i j. complete-free dims-stop y z (all-in a i .whole) (all-in a j .whole)) (all-imp (λ x e. bytes-at d (e .bytes)) a)
 
@@ -96,7 +100,8 @@ common-self [] = refl
 common-self (a ∷ s) = rw (eq-eqb a a refl) (ap (λ (l : List ℕ). a ∷ l) (common-self s))
 
 -- FOR KEYS ALL EQUAL the position is one past the end
-pub position-equal : (d : ℕ) (x : Key) (xs : List Key) → All (λ y. at d (y .strings) ≡ at d (x .strings)) xs → position d (x ∷ xs) ≡ length (at d (x .strings)) + 1
+pub position-equal : (d : ℕ) (x : Key) (xs : List Key) → All (λ y. at d (y .strings) ≡ at d (x .strings)) xs
+    → position d (x ∷ xs) ≡ length (at d (x .strings)) + 1
 unfolding position shared narrow
 position-equal d x xs a = ap (λ (s : List ℕ). length s + 1) (go a)
   where

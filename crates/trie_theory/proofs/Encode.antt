@@ -1,17 +1,17 @@
 -- The bytes of a trie are as many as its cost, and give the trie back: two tries with the same bytes are the same.
 use Prim.Native.Nat.{ℕ, suc, _+_, _*_, _/_, _%_}
 use mathlib.Core.Path.{_≡_, refl, sym, ap, ap₂, _∙_}
-use mathlib.Core.List.{List, [], _∷_, _++_, map, append-assoc, append-nil}
+use mathlib.Core.List.{List, [], _∷_, _++_, map, append-assoc}
 use native.Mathlib.Omega.{arith}
 use lib.ListN.{length, length-append, length-map}
 use Rattle.trie_theory.specs.Forest.{Strings, Key, Forest, none, leaf, inner, join, under, keys}
 use Rattle.trie_theory.specs.Lists.{All, nil, cons, sum, flat}
 use Rattle.trie_theory.specs.Strings.{total}
 use Rattle.trie_theory.specs.Dimensions.{Above, below}
-use Rattle.trie_theory.specs.Sound.{Wide, Node, Sound}
+use Rattle.trie_theory.specs.Sound.{Wide, Sound}
 use Rattle.trie_theory.specs.Encode.{suffixBytes, four, nodeBytes, encode}
 use Rattle.trie_theory.specs.Size.{cost}
-use Rattle.trie_theory.proofs.Lists.{all-left, all-right, all-unmap, all-both, all-head, all-tail}
+use Rattle.trie_theory.proofs.Lists.{all-left, all-right, all-unmap, all-both}
 
 -- a reference has 20 bytes
 abbrev pub Twenty : Key → Type 0
@@ -113,7 +113,8 @@ strings-parts (s ∷ ss) (t ∷ ts) a b l e =
 equal-lengths : (s t : Strings) → length s ≡ length t → length (map length s) ≡ length (map length t)
 equal-lengths s t e = length-map s length ∙ e ∙ sym (length-map t length)
 
-suffix-parts : (n : ℕ) (t u : Key) (a b : List ℕ) → Wide n t × Twenty t → Wide n u × Twenty u → suffixBytes t ++ a ≡ suffixBytes u ++ b → (t ≡ u) × (a ≡ b)
+suffix-parts : (n : ℕ) (t u : Key) (a b : List ℕ) → Wide n t × Twenty t → Wide n u × Twenty u
+    → suffixBytes t ++ a ≡ suffixBytes u ++ b → (t ≡ u) × (a ≡ b)
 unfolding suffixBytes
 suffix-parts n t u a b h g e =
     let p = halves (map length (t .strings)) (map length (u .strings)) _ _ (equal-lengths (t .strings) (u .strings) (h .0 ∙ sym (g .0))) (simp append-assoc at e) in
@@ -156,7 +157,8 @@ pub record Parts (k k′ : ℕ) (s s′ : Strings) (b b′ m m′ : List ℕ) : 
   pub body : b ≡ b′
   pub more : m ≡ m′
 
-pub node-parts : (k k′ : ℕ) (s s′ : Strings) (b b′ m m′ : List ℕ) → length s ≡ length s′ → nodeBytes k s b ++ m ≡ nodeBytes k′ s′ b′ ++ m′
+pub node-parts : (k k′ : ℕ) (s s′ : Strings) (b b′ m m′ : List ℕ) → length s ≡ length s′
+    → nodeBytes k s b ++ m ≡ nodeBytes k′ s′ b′ ++ m′
     → Parts k k′ s s′ b b′ m m′
 unfolding nodeBytes
 node-parts k k′ s s′ b b′ m m′ l e =
@@ -172,7 +174,8 @@ node-parts k k′ s s′ b b′ m m′ l e =
     four-long : (n : ℕ) → length (four n) ≡ 4
     four-long n = unfold four in refl
 
-    regroup : (s : Strings) (b m : List ℕ) → (map length s ++ (four (length b) ++ (flat s ++ b))) ++ m ≡ map length s ++ (four (length b) ++ (flat s ++ (b ++ m)))
+    regroup : (s : Strings) (b m : List ℕ)
+        → (map length s ++ (four (length b) ++ (flat s ++ b))) ++ m ≡ map length s ++ (four (length b) ++ (flat s ++ (b ++ m)))
     regroup s b m = simp append-assoc
 
 -- THE BYTES GIVE THE TRIE BACK

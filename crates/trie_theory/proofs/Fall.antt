@@ -41,7 +41,8 @@ module _ (d : ℕ) (p : Strings) (inside : d < length p) where
       cons {x = x ∷ xs} (omega arith) (all-imp (λ q m. omega arith) (each-falls r))
 
 -- UNDECIDED BYTES FALL
-pub parts-fall : (d : ℕ) (x : Key) (xs : List Key) → differ d (x ∷ xs) ≡ true → All (λ q. undecided q < undecided (x ∷ xs)) (parts d (x ∷ xs))
+pub parts-fall : (d : ℕ) (x : Key) (xs : List Key) → differ d (x ∷ xs) ≡ true
+    → All (λ q. undecided q < undecided (x ∷ xs)) (parts d (x ∷ xs))
 unfolding undecided behind
 parts-fall d x xs e =
     let ks : List Key = x ∷ xs in

@@ -7,13 +7,13 @@ use mathlib.Core.List.{List, [], _∷_, _++_, append-assoc, append-nil}
 use native.Mathlib.Omega.{arith}
 use lib.ListN.{length, drop}
 use lib.Dec.{eqb, ltb}
-use borrow.Author.Tests.{eqb-true, eqb-false, ltb-true, ltb-false, eq-eqb}
+use borrow.Author.Tests.{eqb-false, ltb-true, ltb-false, eq-eqb}
 use Rattle.trie_theory.specs.Forest.{Strings, Key, join, under}
-use Rattle.trie_theory.specs.Strings.{goesOn, common, commons, strip, remains, at, first, total}
+use Rattle.trie_theory.specs.Strings.{goesOn, common, commons, strip, remains, at, first}
 use Rattle.trie_theory.specs.Dimensions.{Above, root, below, wanted, turn, branching}
 use Rattle.trie_theory.specs.SmallTrie.{meets, chosen, differing}
 use Rattle.trie_theory.specs.Sound.{Starts}
-use Rattle.trie_theory.proofs.Prefix.{Prefix, Prefixes, From, prefixes-goesOn, commons-left, commons-right}
+use Rattle.trie_theory.proofs.Prefix.{Prefixes, From, prefixes-goesOn, commons-left, commons-right}
 use Rattle.trie_theory.proofs.Strings.{join-strip, at-join, at-strip, first-at, length-strip, length-commons}
 use Rattle.trie_theory.proofs.Round.{turn-passes, turn-none, wanted-inside}
 use Rattle.trie_theory.proofs.Branching.{meets-true}
@@ -88,8 +88,10 @@ left-differ (a ∷ s) (b ∷ k) p q e = go (eqb a b) refl (left-differ s k) p q 
     go : (w : Bool) → eqb a b ≡ w
         → ((drop (length (common s k)) s ≡ [] → ⊥) → (drop (length (common s k)) k ≡ [] → ⊥)
         → first zero (drop (length (common s k)) s ∷ []) ≡ first zero (drop (length (common s k)) k ∷ []) → ⊥)
-        → (drop (length (cond w (a ∷ common s k) [])) (a ∷ s) ≡ [] → ⊥) → (drop (length (cond w (a ∷ common s k) [])) (b ∷ k) ≡ [] → ⊥)
-        → first zero (drop (length (cond w (a ∷ common s k) [])) (a ∷ s) ∷ []) ≡ first zero (drop (length (cond w (a ∷ common s k) [])) (b ∷ k) ∷ []) → ⊥
+        → (drop (length (cond w (a ∷ common s k) [])) (a ∷ s) ≡ [] → ⊥)
+        → (drop (length (cond w (a ∷ common s k) [])) (b ∷ k) ≡ [] → ⊥)
+        → first zero (drop (length (cond w (a ∷ common s k) [])) (a ∷ s) ∷ []) ≡ first zero (drop (length (cond w (a ∷ common s k) [])) (b ∷ k) ∷ [])
+        → ⊥
     go true t ih p′ q′ z = ih p′ q′ z
     go false t ih p′ q′ z = eqb-false a b t z
 
@@ -111,7 +113,8 @@ common-some [] k p q e z = p refl
 common-some (a ∷ s) [] p q e z = q refl
 common-some (a ∷ s) (b ∷ k) p q e z = let r : a ∷ common s k ≡ [] = rw (eq-eqb a b e) at z in let c : _≡_ {A = ℕ} 0 1 = cc in omega arith
 
-pub commons-starts : (above : Above) (s k : Strings) → Starts above s → Starts above k → meets above s k ≡ true → Starts above (commons s k)
+pub commons-starts : (above : Above) (s k : Strings) → Starts above s → Starts above k → meets above s k ≡ true
+    → Starts above (commons s k)
 unfolding Starts branching
 commons-starts root s k f g m = tt
 commons-starts (below d) s k f g m = λ z.

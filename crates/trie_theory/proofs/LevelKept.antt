@@ -5,9 +5,9 @@ use mathlib.Core.Option.{Option, none, some}
 use mathlib.Core.List.{List, [], _∷_, map}
 use native.Mathlib.Omega.{arith}
 use lib.ListN.{length}
-use Rattle.trie_theory.specs.Forest.{Strings, Key, Forest, leaf, inner, join, under, keys}
+use Rattle.trie_theory.specs.Forest.{Strings, Key, Forest, under, keys}
 use Rattle.trie_theory.specs.Lists.{All, nil, cons, sum, flat}
-use Rattle.trie_theory.specs.Strings.{strip, remains}
+use Rattle.trie_theory.specs.Strings.{remains}
 use Rattle.trie_theory.specs.Dimensions.{Above, root, below}
 use Rattle.trie_theory.specs.Position.{shared}
 use Rattle.trie_theory.specs.Level.{choice, node, each, grow, children, trie, levelOf}
@@ -59,7 +59,8 @@ module _ (n τ : ℕ) (h : Key → ℕ) where
       ∙ sum-parts h d ks (choice-differ n τ above ks d e))
 
   -- the children of a set have its keys
-  pub kids-sum : (f : ℕ) (above : Above) (d : ℕ) (ks : List Key) → choice n τ above ks ≡ some d → sum h (keys (shared ks) (children n τ f ks d)) ≡ sum h ks
+  pub kids-sum : (f : ℕ) (above : Above) (d : ℕ) (ks : List Key) → choice n τ above ks ≡ some d
+      → sum h (keys (shared ks) (children n τ f ks d)) ≡ sum h ks
   kids-sum f above d ks e =
       each-sum (grow n τ f (below d) (shared ks)) (grow-sum f (below d) (shared ks)) (parted (From (shared ks)) d (shared-all ks))
       ∙ sum-parts h d ks (choice-differ n τ above ks d e)

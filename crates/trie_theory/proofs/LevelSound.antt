@@ -4,16 +4,16 @@ use Prim.Native.Nat.{ℕ, zero, suc, _≤_, _<_}
 use mathlib.Core.Path.{_≡_, refl, ap, _∙_}
 use mathlib.Core.Bool.{true}
 use mathlib.Core.Option.{Option, none, some}
-use mathlib.Core.List.{List, [], _∷_, map}
+use mathlib.Core.List.{List, [], _∷_}
 use native.Mathlib.Omega.{arith}
-use lib.ListN.{length, length-map}
+use lib.ListN.{length}
 use lib.Dec.{ltb}
 use borrow.Author.Tests.{lt-ltb}
-use Rattle.trie_theory.specs.Forest.{Strings, Key, Forest, leaf, inner, tops}
+use Rattle.trie_theory.specs.Forest.{Strings, Key, Forest, tops}
 use Rattle.trie_theory.specs.Lists.{All, nil, cons}
 use Rattle.trie_theory.specs.Strings.{strip, remains, first}
 use Rattle.trie_theory.specs.Dimensions.{Above, root, below, branching}
-use Rattle.trie_theory.specs.Position.{shared, byte}
+use Rattle.trie_theory.specs.Position.{shared}
 use Rattle.trie_theory.specs.Parts.{parts}
 use Rattle.trie_theory.specs.Level.{choice, node, each, grow, children, trie, levelOf}
 use Rattle.trie_theory.specs.SmallTrie.{ahead}
@@ -35,7 +35,8 @@ Below above s f = All (λ t. branching above s < branching above t) (tops f)
 
 module _ (n τ : ℕ) where
   -- a node before siblings whose bytes are above its own, an inner one if its children are well and two
-  node-well : (above : Above) (k : Strings) (x : Key) (xs : List Key) (o : Option ℕ) (kids : ℕ → Forest) (more : Forest) → All (Wide n) (x ∷ xs)
+  node-well : (above : Above) (k : Strings) (x : Key) (xs : List Key) (o : Option ℕ) (kids : ℕ → Forest) (more : Forest)
+      → All (Wide n) (x ∷ xs)
       → Starts above (strip k (shared (x ∷ xs))) → Below above (strip k (shared (x ∷ xs))) more → Well n above more
       → ((d : ℕ) → o ≡ some d → (2 ≤ length (tops (kids d))) × Well n (below d) (kids d))
       → Well n above (node k (x ∷ xs) o kids more)
@@ -55,14 +56,16 @@ module _ (n τ : ℕ) where
       before : ahead above p more ≡ true
       before = all-test (λ t. ltb (branching above p) (branching above t)) (all-imp (λ t l. lt-ltb (branching above p) (branching above t) l) b)
 
-      go : (o : Option ℕ) → ((d : ℕ) → o ≡ some d → (2 ≤ length (tops (kids d))) × Well n (below d) (kids d)) → Well n above (node k (x ∷ xs) o kids more)
+      go : (o : Option ℕ) → ((d : ℕ) → o ≡ some d → (2 ≤ length (tops (kids d))) × Well n (below d) (kids d))
+          → Well n above (node k (x ∷ xs) o kids more)
       go none ih = (
         (own, omega arith, all-map (remains (shared (x ∷ xs))) (λ y e. length-strip (shared (x ∷ xs)) (y .strings) ∙ e) w, m .0),
         (before, m .1),
       )
       go (some d) ih = let r = ih d refl in ((own, r .0, r .1 .0, m .0), (before, r .1 .1, m .1))
 
-  grow-tops : (f : ℕ) (above : Above) (k : Strings) (ks : List Key) (more : Forest) → tops (grow n τ f above k ks more) ≡ strip k (shared ks) ∷ tops more
+  grow-tops : (f : ℕ) (above : Above) (k : Strings) (ks : List Key) (more : Forest)
+      → tops (grow n τ f above k ks more) ≡ strip k (shared ks) ∷ tops more
   unfolding grow node tops
   grow-tops zero above k ks more = refl
   grow-tops (suc f) above k ks more = go (choice n τ above ks)
@@ -89,7 +92,8 @@ module _ (n τ : ℕ) where
 
     each-well : {b : ℕ} {ps : List (List Key)}
         → ((x : Key) (xs : List Key) (more : Forest) → All (Wide n) (x ∷ xs) → Starts (below d) (strip p (shared (x ∷ xs)))
-        → Below (below d) (strip p (shared (x ∷ xs))) more → Well n (below d) more → Well n (below d) (grow n τ f (below d) p (x ∷ xs) more))
+        → Below (below d) (strip p (shared (x ∷ xs))) more → Well n (below d) more
+        → Well n (below d) (grow n τ f (below d) p (x ∷ xs) more))
         → Parted d p (λ y. From p y × Wide n y) b ps → Well n (below d) (each (grow n τ f (below d) p) ps)
     unfolding each Sound Ascending Starts branching
     each-well ih done = (tt, tt)

@@ -12,10 +12,10 @@ use borrow.Author.Tests.{ltb-true, lt-ltb, le-ltb}
 use Rattle.trie_theory.specs.Forest.{Strings, Key, Forest, leaf, inner}
 use Rattle.trie_theory.specs.Lists.{All, nil, cons}
 use Rattle.trie_theory.specs.Strings.{strip}
-use Rattle.trie_theory.specs.Dimensions.{Above, root, below, wanted, turn}
+use Rattle.trie_theory.specs.Dimensions.{Above, below, wanted, turn}
 use Rattle.trie_theory.specs.Position.{shared, differ}
 use Rattle.trie_theory.specs.Parts.{parts}
-use Rattle.trie_theory.specs.Level.{choice, node, each, grow, children, trie, levelOf}
+use Rattle.trie_theory.specs.Level.{choice, node, each, grow, children, trie}
 use Rattle.trie_theory.proofs.Lists.{all-imp}
 use Rattle.trie_theory.proofs.Round.{not-some, turn-passes, turn-none, turn-inside}
 use Rattle.trie_theory.proofs.Parts.{parts-short}
@@ -53,7 +53,8 @@ pub choice-empty : (n τ : ℕ) (above : Above) → choice n τ above [] ≡ non
 unfolding choice
 choice-empty n τ above = rw (le-ltb τ 0 (omega arith))
 
-each-same : {g h : List Key → Forest → Forest} {ps : List (List Key)} → All (λ q. (more : Forest) → g q more ≡ h q more) ps → each g ps ≡ each h ps
+each-same : {g h : List Key → Forest → Forest} {ps : List (List Key)} → All (λ q. (more : Forest) → g q more ≡ h q more) ps
+    → each g ps ≡ each h ps
 unfolding each
 each-same nil = refl
 each-same {g} {h} (cons {x = q} {xs = ps} e a) = e (each g ps) ∙ ap (h q) (each-same a)

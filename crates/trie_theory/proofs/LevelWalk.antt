@@ -21,7 +21,7 @@ use Rattle.trie_theory.proofs.Lists.{In, at-head, later, not-true, all-
 use Rattle.trie_theory.proofs.Sums.{equal-length}
 use Rattle.trie_theory.proofs.Prefix.{Prefixes, From, shared-all, shared-greatest, prefixes-goesOn, goesOn-prefixes, prefixes-trans}
 use Rattle.trie_theory.proofs.Strings.{join-strip}
-use Rattle.trie_theory.proofs.Parts.{differ-all, differ-inside, extend, extend-in, extend-out, parted, sum-parts}
+use Rattle.trie_theory.proofs.Parts.{differ-all, differ-inside, extend, extend-in, extend-out}
 use Rattle.trie_theory.proofs.LevelStep.{choice-differ}
 use Rattle.trie_theory.proofs.LevelKept.{kids-sum}
 
@@ -39,12 +39,14 @@ shared-in p (later i) a = shared-greatest p a
 
 module _ (x : Key) (k : Strings) (ks : List Key) (more : Forest) (above : Prefixes k (shared ks)) where
   -- a node with whose bytes x does not go on is passed over
-  node-skip : (o : Option ℕ) (kids : ℕ → Forest) → goesOn (shared ks) (x .strings) ≡ false → walk k (node k ks o kids more) x ≡ walk k more x
+  node-skip : (o : Option ℕ) (kids : ℕ → Forest) → goesOn (shared ks) (x .strings) ≡ false
+      → walk k (node k ks o kids more) x ≡ walk k more x
   unfolding node walk
   node-skip none kids e = on-false _ _ _ (ap (λ (l : Strings). goesOn l (x .strings)) (join-strip k (shared ks) above) ∙ e)
   node-skip (some d) kids e = on-false _ _ _ (ap (λ (l : Strings). goesOn l (x .strings)) (join-strip k (shared ks) above) ∙ e)
 
-  leaf-enter : (kids : ℕ → Forest) → From (shared ks) x → walk k (node k ks none kids more) x ≡ stepAt (shared ks) (length ks) 0 ∷ []
+  leaf-enter : (kids : ℕ → Forest) → From (shared ks) x
+      → walk k (node k ks none kids more) x ≡ stepAt (shared ks) (length ks) 0 ∷ []
   unfolding node walk
   leaf-enter kids h =
       rw (join-strip k (shared ks) above)
@@ -59,7 +61,8 @@ module _ (x : Key) (k : Strings) (ks : List Key) (more : Forest) (above : Prefix
 module _ (x : Key) (d : ℕ) (p : Strings) (g : List Key → Forest → Forest) (ks : List Key) (r : List Step) (i : In x ks)
     (own : (more : Forest) → walk p (g (keep d p (byte d p x) ks) more) x ≡ r)
     (other : (c : ℕ) (y : Key) (ys : List Key) (more : Forest) → (byte d p x ≡ c → ⊥) → keep d p c ks ≡ y ∷ ys → walk p (g (y ∷ ys) more) x ≡ walk p more x) where
-  enter : {xs : List Key} → In x xs → ((more : Forest) → walk p (g xs more) x ≡ r) → (ps : List (List Key)) → walk p (each g (filled xs ps)) x ≡ r
+  enter : {xs : List Key} → In x xs → ((more : Forest) → walk p (g xs more) x ≡ r) → (ps : List (List Key))
+      → walk p (each g (filled xs ps)) x ≡ r
   unfolding filled each
   enter at-head h ps = h (each g ps)
   enter (later j) h ps = h (each g ps)
@@ -80,7 +83,8 @@ module _ (x : Key) (d : ℕ) (p : Strings) (g : List Key → Forest → Forest) 
   each-walk zero b l u = absurd (omega arith)
   each-walk (suc f) b l u = go (eqb (byte d p x) b) refl (each-walk f (suc b))
     where
-      go : (w : Bool) → eqb (byte d p x) b ≡ w → (suc b ≤ byte d p x → byte d p x < suc b + f → walk p (each g (partsFrom d p f (suc b) ks)) x ≡ r)
+      go : (w : Bool) → eqb (byte d p x) b ≡ w
+          → (suc b ≤ byte d p x → byte d p x < suc b + f → walk p (each g (partsFrom d p f (suc b) ks)) x ≡ r)
           → walk p (each g (filled (keep d p b ks) (partsFrom d p f (suc b) ks))) x ≡ r
       go true e ih =
           let q = eqb-true (byte d p x) b e in
@@ -94,7 +98,8 @@ abbrev part-of : Key → ℕ → List Key → List Key
 part-of x d ks = keep d (shared ks) (byte d (shared ks) x) ks
 
 module _ (n τ : ℕ) (x : Key) where
-  grow-skip : (f : ℕ) (above : Above) (k : Strings) (ks : List Key) (more : Forest) → Prefixes k (shared ks) → goesOn (shared ks) (x .strings) ≡ false
+  grow-skip : (f : ℕ) (above : Above) (k : Strings) (ks : List Key) (more : Forest) → Prefixes k (shared ks)
+      → goesOn (shared ks) (x .strings) ≡ false
       → walk k (grow n τ f above k ks more) x ≡ walk k more x
   unfolding grow
   grow-skip zero above k ks more h e = node-skip x k ks more h none (λ d. Forest.none) e
@@ -168,7 +173,8 @@ unfolding levelOf trie route Prefixes
 level-walk n τ (y ∷ ys) x i = grow-walk n τ x (length (y ∷ ys)) root [] (y ∷ ys) Forest.none (all-every (y ∷ ys) (λ z. tt)) i
 
 -- its positions are those of Definition 5
-pub step-position : (ks : List Key) (m t d : ℕ) → d < length (shared ks) → getD (stepAt (shared ks) m t .positions) d 0 ≡ position d ks
+pub step-position : (ks : List Key) (m t d : ℕ) → d < length (shared ks)
+    → getD (stepAt (shared ks) m t .positions) d 0 ≡ position d ks
 unfolding stepAt position
 step-position ks m t d l = go (shared ks) d l
   where

@@ -62,11 +62,13 @@ pub all-right : {A : Type 0} {P : A → Type 0} (xs ys : List A) → All P (xs +
 all-right [] ys a = a
 all-right (x ∷ xs) ys a = all-right xs ys (all-tail a)
 
-pub all-map : {A B : Type 0} {P : A → Type 0} {Q : B → Type 0} (f : A → B) → ((x : A) → P x → Q (f x)) → {xs : List A} → All P xs → All Q (map f xs)
+pub all-map : {A B : Type 0} {P : A → Type 0} {Q : B → Type 0} (f : A → B) → ((x : A) → P x → Q (f x)) → {xs : List A} → All P xs
+    → All Q (map f xs)
 all-map f g nil = nil
 all-map f g (cons h a) = cons (g _ h) (all-map f g a)
 
-pub all-unmap : {A B : Type 0} {P : A → Type 0} {Q : B → Type 0} (f : A → B) → ((x : A) → Q (f x) → P x) → (xs : List A) → All Q (map f xs) → All P xs
+pub all-unmap : {A B : Type 0} {P : A → Type 0} {Q : B → Type 0} (f : A → B) → ((x : A) → Q (f x) → P x) → (xs : List A)
+    → All Q (map f xs) → All P xs
 all-unmap f g [] a = nil
 all-unmap f g (x ∷ xs) a = cons (g x (all-head a)) (all-unmap f g xs (all-tail a))
 
@@ -85,7 +87,8 @@ unfolding pick
 all-pick t nil = nil
 all-pick {P = P} t (cons {x = x} {xs = xs} h a) = go (t x) refl (all-pick t a)
   where
-    go : (b : Bool) → t x ≡ b → All (λ x. P x × (t x ≡ true)) (pick t xs) → All (λ x. P x × (t x ≡ true)) (cond b (x ∷ pick t xs) (pick t xs))
+    go : (b : Bool) → t x ≡ b → All (λ x. P x × (t x ≡ true)) (pick t xs)
+        → All (λ x. P x × (t x ≡ true)) (cond b (x ∷ pick t xs) (pick t xs))
     go true e r = cons (h, e) r
     go false e r = r
 
@@ -94,7 +97,8 @@ unfolding pick
 pick-append t [] ys = refl
 pick-append t (x ∷ xs) ys = go (t x) (pick-append t xs ys)
   where
-    go : (b : Bool) → pick t (xs ++ ys) ≡ pick t xs ++ pick t ys → cond b (x ∷ pick t (xs ++ ys)) (pick t (xs ++ ys)) ≡ cond b (x ∷ pick t xs) (pick t xs) ++ pick t ys
+    go : (b : Bool) → pick t (xs ++ ys) ≡ pick t xs ++ pick t ys
+        → cond b (x ∷ pick t (xs ++ ys)) (pick t (xs ++ ys)) ≡ cond b (x ∷ pick t xs) (pick t xs) ++ pick t ys
     go true e = ap (λ (l : List _). x ∷ l) e
     go false e = e
 
@@ -136,7 +140,8 @@ unfolding any
 any-in t [] e = absurd (false≢true e)
 any-in t (x ∷ xs) e = go (t x) refl e (any-in t xs)
   where
-    go : (b : Bool) → t x ≡ b → b || any t xs ≡ true → (any t xs ≡ true → (y : _) × In y xs × (t y ≡ true)) → (y : _) × In y (x ∷ xs) × (t y ≡ true)
+    go : (b : Bool) → t x ≡ b → b || any t xs ≡ true → (any t xs ≡ true → (y : _) × In y xs × (t y ≡ true))
+        → (y : _) × In y (x ∷ xs) × (t y ≡ true)
     go true h e r = (x, at-head, h)
     go false h e r = let y = r e in (y .0, later (y .1), y .2)
 
@@ -150,7 +155,8 @@ in-any t (later {y = y} {xs = xs} i) e = or-true (t y) (any t xs) (in-any t i e)
     or-true false b e = e
 
 -- the test of equal lists is right, both ways
-pub same-true : {A : Type 0} (t : A → A → Bool) → ((x y : A) → t x y ≡ true → x ≡ y) → (xs ys : List A) → same t xs ys ≡ true → xs ≡ ys
+pub same-true : {A : Type 0} (t : A → A → Bool) → ((x y : A) → t x y ≡ true → x ≡ y) → (xs ys : List A) → same t xs ys ≡ true
+    → xs ≡ ys
 unfolding same
 same-true t h [] [] e = refl
 same-true t h [] (y ∷ ys) e = absurd (false≢true e)

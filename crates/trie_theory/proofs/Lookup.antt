@@ -2,21 +2,22 @@
 -- their branching bytes differ is used.
 use Prim.Native.Nat.{ℕ}
 use mathlib.Core.Path.{_≡_, refl, sym, ap, ap₂, _∙_}
-use mathlib.Core.Bool.{Bool, true, false, cond, _&&_, _||_, true≢false}
-use mathlib.Core.List.{List, [], _∷_, _++_, map}
+use mathlib.Core.Bool.{Bool, true, false, cond, _&&_, _||_}
+use mathlib.Core.List.{List, [], map}
 use mathlib.Core.Logic.{_↔_}
 use lib.ListN.{length}
 use lib.Dec.{eqb}
 use Rattle.trie_theory.specs.Forest.{Strings, Key, Forest, none, leaf, inner, join, under, keys, tops}
 use Rattle.trie_theory.specs.Lists.{All, nil, cons, any, same}
-use Rattle.trie_theory.specs.Strings.{goesOn, strip, remains}
+use Rattle.trie_theory.specs.Strings.{goesOn, remains}
 use Rattle.trie_theory.specs.Dimensions.{Above, below, branching}
 use Rattle.trie_theory.specs.SmallTrie.{meets}
 use Rattle.trie_theory.specs.Lookup.{sameKey, among, member}
-use Rattle.trie_theory.specs.Sound.{Starts, Wide, Node, Sound}
-use Rattle.trie_theory.proofs.Lists.{In, and-left, and-right, and-both, bool-ext, all-head, all-tail, all-imp, any-append, any-in, in-any, bytes-true, bytes-refl, strings-true, strings-refl}
+use Rattle.trie_theory.specs.Sound.{Node, Sound}
+use Rattle.trie_theory.proofs.Lists.{In, and-left, and-right, and-both, bool-ext, all-head, all-tail, all-imp, any-append}
+use Rattle.trie_theory.proofs.Lists.{any-in, in-any, bytes-true, bytes-refl, strings-true, strings-refl}
 use Rattle.trie_theory.proofs.Prefix.{prefixes-goesOn, goesOn-prefixes, prefixes-join}
-use Rattle.trie_theory.proofs.Strings.{strip-join, length-strip}
+use Rattle.trie_theory.proofs.Strings.{strip-join}
 use Rattle.trie_theory.proofs.Branching.{branching-prefix, meets-true, meets-false, meets-apart}
 use Rattle.trie_theory.proofs.Keys.{keys-from, under-remains}
 use Rattle.trie_theory.proofs.SoundLaws.{wide-keys}
@@ -46,7 +47,8 @@ unfolding remains under
 remains-under s y h = ap (λ (l : Strings). record { strings = l; reference = y .reference }) (strip-join s (y .strings) h)
 
 -- x is a key below the strings s: it agrees with them, and what remains of it is the rest
-same-under : (s : Strings) (x y : Key) → length s ≡ length (y .strings) → sameKey x (under s y) ≡ goesOn s (x .strings) && sameKey (remains s x) y
+same-under : (s : Strings) (x y : Key) → length s ≡ length (y .strings)
+    → sameKey x (under s y) ≡ goesOn s (x .strings) && sameKey (remains s x) y
 unfolding under
 same-under s x y h = bool-ext (sameKey x (under s y)) (goesOn s (x .strings) && sameKey (remains s x) y) down up
   where
@@ -79,7 +81,8 @@ among-under s x (cons {x = y} {xs = ys} h a) =
 
 -- a walk that has a node's byte finds nothing in its later siblings
 passed : (above : Above) (s : Strings) (more : Forest) (x : Key)
-    → All (λ t. branching above s ≡ branching above t → ⊥) (tops more) → branching above s ≡ branching above (x .strings) → member above more x ≡ false
+    → All (λ t. branching above s ≡ branching above t → ⊥) (tops more) → branching above s ≡ branching above (x .strings)
+    → member above more x ≡ false
 unfolding tops member
 passed above s none x a e = refl
 passed above s (leaf t ts more) x a e =
@@ -88,7 +91,8 @@ passed above s (inner d t kids more) x a e =
     rw (meets-apart above t (x .strings) (λ q. all-head a (e ∙ sym q))) (passed above s more x (all-tail a) e)
 
 -- one node: `mine` is what it finds, all of it agreeing with its strings, and `others` what its siblings hold
-here-or-later : (n : ℕ) (above : Above) (s : Strings) (x : Key) (more : Forest) (mine others : Bool) → Node n above s more → member above more x ≡ others
+here-or-later : (n : ℕ) (above : Above) (s : Strings) (x : Key) (more : Forest) (mine others : Bool) → Node n above s more
+    → member above more x ≡ others
     → cond (meets above s (x .strings)) (goesOn s (x .strings) && mine) (member above more x) ≡ (goesOn s (x .strings) && mine) || others
 here-or-later n above s x more mine others h e = go (meets above s (x .strings)) refl (goesOn s (x .strings)) refl
   where

@@ -14,7 +14,7 @@ use Rattle.trie_theory.specs.Strings.{strip, first}
 use Rattle.trie_theory.specs.Position.{shared, byte, differ}
 use Rattle.trie_theory.specs.Parts.{keep, filled, partsFrom, parts}
 use Rattle.trie_theory.proofs.Lists.{all-imp, all-both, all-tested, all-pick}
-use Rattle.trie_theory.proofs.Sums.{sum-append, sum-pick, sum-equal, sum-zero, sum-none, sum-one, equal-length}
+use Rattle.trie_theory.proofs.Sums.{sum-append, sum-pick, sum-equal, sum-zero, sum-none, equal-length}
 use Rattle.trie_theory.proofs.Prefix.{Prefix, Prefixes, From, shared-all, shared-greatest, length-prefixes}
 use Rattle.trie_theory.proofs.Strings.{length-strip, first-inside}
 
@@ -104,7 +104,8 @@ extend d b [] = []
 extend zero b (k ∷ ks) = (k ++ (b ∷ [])) ∷ ks
 extend (suc d) b (k ∷ ks) = k ∷ extend d b ks
 
-prefix-snoc : (b : ℕ) (k s : List ℕ) (ss : Strings) → b < 256 → Prefix k s → first zero (drop (length k) s ∷ ss) ≡ b → Prefix (k ++ (b ∷ [])) s
+prefix-snoc : (b : ℕ) (k s : List ℕ) (ss : Strings) → b < 256 → Prefix k s → first zero (drop (length k) s ∷ ss) ≡ b
+    → Prefix (k ++ (b ∷ [])) s
 unfolding Prefix first
 prefix-snoc b [] [] ss u h e = absurd (omega arith)
 prefix-snoc b [] (c ∷ s) ss u h e = (sym e, tt)
@@ -172,7 +173,8 @@ differ-inside d x xs e =
 
 module _ (d c : ℕ) (p : Strings) (inside : d < length p) (u : c < 256) where
   -- keys with the byte c behind p share it
-  pub part-first : {x : Key} {xs : List Key} → All (λ y. From p y × (byte d p y ≡ c)) (x ∷ xs) → first d (strip p (shared (x ∷ xs))) ≡ c
+  pub part-first : {x : Key} {xs : List Key} → All (λ y. From p y × (byte d p y ≡ c)) (x ∷ xs)
+      → first d (strip p (shared (x ∷ xs))) ≡ c
   unfolding byte
   part-first {x} {xs} a =
       extend-out d c p (shared (x ∷ xs)) inside
@@ -234,7 +236,8 @@ others (part {x = x} {xs = xs} {ps = ps} c l u a r) =
     few done = omega arith
     few (part {x = x} {xs = xs} {ps = ps} c l u a r) = let m = few r in omega (arith, length-append xs (flat ps))
 
-pub parts-short : (d : ℕ) (x : Key) (xs : List Key) → differ d (x ∷ xs) ≡ true → All (λ q. length q < length (x ∷ xs)) (parts d (x ∷ xs))
+pub parts-short : (d : ℕ) (x : Key) (xs : List Key) → differ d (x ∷ xs) ≡ true
+    → All (λ q. length q < length (x ∷ xs)) (parts d (x ∷ xs))
 parts-short d x xs e =
     let ks : List Key = x ∷ xs in
     let t = parts-two d x xs e in

@@ -4,11 +4,10 @@ use Prim.Native.Nat.{ℕ, zero, suc, _+_, _-_, _<_}
 use mathlib.Core.Path.{_≡_, refl, sym, ap, _∙_}
 use mathlib.Core.Bool.{Bool, true, false, cond}
 use mathlib.Core.Option.{Option, none, some}
-use mathlib.Core.List.{List}
 use native.Mathlib.Omega.{arith}
 use lib.ListN.{length}
 use lib.Dec.{eqb, ltb}
-use borrow.Author.Tests.{ltb-true, ltb-false, eqb-false, lt-ltb, eq-eqb, ne-eqb}
+use borrow.Author.Tests.{ltb-true, ltb-false, eqb-false, eq-eqb, ne-eqb}
 use Rattle.trie_theory.specs.Forest.{Strings}
 use Rattle.trie_theory.specs.Dimensions.{Above, root, below, next, wanted, seek, turn}
 use Rattle.trie_theory.specs.Sound.{Starts}
@@ -66,7 +65,8 @@ module _ (t : ℕ → Bool) (n : ℕ) where
   seek-passes zero d e h = absurd (not-some e h)
   seek-passes (suc f) d e h = go (t d) refl h (seek-passes f (next n d) e)
     where
-      go : (w : Bool) → t d ≡ w → cond w (some d) (seek t n f (next n d)) ≡ some e → (seek t n f (next n d) ≡ some e → t e ≡ true) → t e ≡ true
+      go : (w : Bool) → t d ≡ w → cond w (some d) (seek t n f (next n d)) ≡ some e → (seek t n f (next n d) ≡ some e → t e ≡ true)
+          → t e ≡ true
       go true q h r = ap t (sym (some-same d e h)) ∙ q
       go false q h r = r h
 

@@ -8,7 +8,7 @@ use native.Mathlib.Omega.{arith}
 use lib.ListN.{length}
 use lib.Dec.{eqb}
 use borrow.Author.Tests.{eqb-true}
-use Rattle.trie_theory.specs.Forest.{Strings, Key}
+use Rattle.trie_theory.specs.Forest.{Key}
 use Rattle.trie_theory.specs.Lists.{All, nil, cons, pick}
 use Rattle.trie_theory.specs.Dimensions.{Above, below}
 use Rattle.trie_theory.specs.Position.{shared, byte, differ}
@@ -20,7 +20,8 @@ use Rattle.trie_theory.proofs.Differ.{differ-apart}
 use Rattle.trie_theory.proofs.LevelStep.{choice-differ, choice-empty}
 
 -- no more are picked than there are, and where all are picked all pass
-pick-most : (t : Key → Bool) (xs : List Key) → (length (pick t xs) ≤ length xs) × (length xs ≤ length (pick t xs) → All (λ x. t x ≡ true) xs)
+pick-most : (t : Key → Bool) (xs : List Key)
+    → (length (pick t xs) ≤ length xs) × (length xs ≤ length (pick t xs) → All (λ x. t x ≡ true) xs)
 unfolding pick
 pick-most t [] = (omega arith, λ h. nil)
 pick-most t (x ∷ xs) = go (t x) refl (pick-most t xs)
@@ -32,7 +33,8 @@ pick-most t (x ∷ xs) = go (t x) refl (pick-most t xs)
     go false e r = (omega (arith, r .0), λ l. absurd (omega (arith, r .0)))
 
 -- a part has fewer keys than all have
-keep-fewer : (d c : ℕ) (x : Key) (xs : List Key) → differ d (x ∷ xs) ≡ true → length (keep d (shared (x ∷ xs)) c (x ∷ xs)) < length (x ∷ xs)
+keep-fewer : (d c : ℕ) (x : Key) (xs : List Key) → differ d (x ∷ xs) ≡ true
+    → length (keep d (shared (x ∷ xs)) c (x ∷ xs)) < length (x ∷ xs)
 unfolding keep
 keep-fewer d c x xs e =
     let t : Key → Bool = λ y. eqb (byte d (shared (x ∷ xs)) y) c in
@@ -59,7 +61,8 @@ module _ (n τ : ℕ) (x : Key) where
       go (some d) e = e d refl
 
   -- the bound is never met
-  sequence-same : (f g : ℕ) (above : Above) (ks : List Key) → length ks ≤ f → length ks ≤ g → sequence n τ f above ks x ≡ sequence n τ g above ks x
+  sequence-same : (f g : ℕ) (above : Above) (ks : List Key) → length ks ≤ f → length ks ≤ g
+      → sequence n τ f above ks x ≡ sequence n τ g above ks x
   unfolding sequence
   sequence-same zero g above [] l m = sequence-empty zero above ∙ sym (sequence-empty g above)
   sequence-same zero g above (y ∷ ys) l m = absurd (omega arith)

@@ -3,7 +3,7 @@
 use Prim.Native.Nat.{ℕ, zero, suc, _+_, _≤_}
 use mathlib.Core.Path.{_≡_, refl, sym, ap, ap₂, _∙_}
 use mathlib.Core.Bool.{Bool, true, false, cond, true≢false}
-use mathlib.Core.List.{List, [], _∷_, _++_, map, append-assoc}
+use mathlib.Core.List.{List, [], _∷_, _++_, map}
 use native.Mathlib.Omega.{arith}
 use Rattle.trie_theory.specs.Forest.{Strings, Key, Forest, none, leaf, inner, join, under, keys}
 use Rattle.trie_theory.specs.Lists.{All, nil, cons, pick}
@@ -12,7 +12,8 @@ use Rattle.trie_theory.specs.Dimensions.{Above, root, below}
 use Rattle.trie_theory.specs.Search.{branch, enters, nodesEntered, found}
 use Rattle.trie_theory.specs.Size.{nodes}
 use Rattle.trie_theory.proofs.Lists.{pick-append, not-true}
-use Rattle.trie_theory.proofs.Prefix.{Prefix, Prefixes, From, prefixes-goesOn, prefix-refl, prefixes-refl, prefixes-join, prefixes-trans, prefix-append}
+use Rattle.trie_theory.proofs.Prefix.{Prefix, Prefixes, From, prefixes-goesOn, prefix-refl, prefixes-refl, prefixes-join}
+use Rattle.trie_theory.proofs.Prefix.{prefixes-trans, prefix-append}
 use Rattle.trie_theory.proofs.Keys.{from-under, all-keys}
 
 prefix-more : (k : List ℕ) (b : ℕ) (s : List ℕ) → Prefix (k ++ (b ∷ [])) (k ++ (b ∷ s))
@@ -110,7 +111,8 @@ module _ (reach : Strings → Bool) (down : (k l : Strings) → goesOn k l ≡ t
       blocked root e = absurd (true≢false (unfold enters in e))
       blocked (below d) e = refused (branch d k s) (join k s) (branch-join d k s) (unfold enters in e)
 
-      go : (w : Bool) → enters reach above k s ≡ w → nodesEntered reach (below c) (join k s) kids ≡ admitted reach (below c) (join k s) kids
+      go : (w : Bool) → enters reach above k s ≡ w
+          → nodesEntered reach (below c) (join k s) kids ≡ admitted reach (below c) (join k s) kids
           → nodesEntered reach above k more ≡ admitted reach above k more
           → cond w (1 + nodesEntered reach (below c) (join k s) kids) 0 + nodesEntered reach above k more
           ≡ cond w 1 0 + admitted reach (below c) (join k s) kids + admitted reach above k more
@@ -123,7 +125,8 @@ unfolding nodesEntered nodes
 entered-most reach above k none = omega arith
 entered-most reach above k (leaf s ts more) = go (enters reach above k s) (entered-most reach above k more)
   where
-    go : (w : Bool) → nodesEntered reach above k more ≤ nodes more → cond w 1 0 + nodesEntered reach above k more ≤ suc (nodes more)
+    go : (w : Bool) → nodesEntered reach above k more ≤ nodes more
+        → cond w 1 0 + nodesEntered reach above k more ≤ suc (nodes more)
     go true h = omega arith
     go false h = omega arith
 entered-most reach above k (inner d s kids more) =

@@ -1,6 +1,6 @@
 -- One path and value per leaf: no suffix has a byte left, if no held string is a proper beginning of the new key's. So a
 -- small trie of complete keys stays one.
-use Prim.Native.Nat.{ℕ, zero, suc, _+_, _≤_}
+use Prim.Native.Nat.{ℕ, suc, _+_, _≤_}
 use mathlib.Core.Path.{_≡_, refl, sym, ap, subst, _∙_}
 use mathlib.Core.Bool.{Bool, true, false, cond}
 use mathlib.Core.List.{List, [], _∷_, _++_, map, append-nil}
@@ -9,12 +9,12 @@ use lib.ListN.{length}
 use lib.Dec.{ltb}
 use Rattle.trie_theory.specs.Forest.{Strings, Key, Forest, none, leaf, inner, join, under, keys}
 use Rattle.trie_theory.specs.Lists.{All, nil, cons, sum}
-use Rattle.trie_theory.specs.Strings.{goesOn, commons, strip, remains, at, first, total}
+use Rattle.trie_theory.specs.Strings.{commons, strip, remains, at, first, total}
 use Rattle.trie_theory.specs.Dimensions.{Above, root, below}
 use Rattle.trie_theory.specs.SmallTrie.{alone, two, differing, split, added, grown, smallTrie}
 use Rattle.trie_theory.specs.Sound.{Starts, Sound, Ascending, Bare}
 use Rattle.trie_theory.specs.Entries.{complete, Stops, Small}
-use Rattle.trie_theory.proofs.Lists.{all-head, all-tail, all-append, all-left, all-right, all-unmap, all-imp}
+use Rattle.trie_theory.proofs.Lists.{all-head, all-append, all-left, all-right, all-unmap, all-imp}
 use Rattle.trie_theory.proofs.Sums.{equal-all}
 use Rattle.trie_theory.proofs.Prefix.{From, goesOn-prefixes, prefixes-refl}
 use Rattle.trie_theory.proofs.Strings.{at-join, at-total, total-strip}
@@ -42,7 +42,8 @@ strip-self : (s : Strings) → total (strip s s) ≡ 0
 strip-self s = omega (arith, total-strip s s (prefixes-refl s))
 
 -- where a key agrees with a leaf, nothing of it is left
-leaf-ends : (s : Strings) (ts : List Key) (x : Key) → From s x → 1 ≤ length ts → All (λ t. total (t .strings) ≡ 0) ts → All (λ y. Free y x) (map (under s) ts)
+leaf-ends : (s : Strings) (ts : List Key) (x : Key) → From s x → 1 ≤ length ts → All (λ t. total (t .strings) ≡ 0) ts
+    → All (λ y. Free y x) (map (under s) ts)
     → total (strip s (x .strings)) ≡ 0
 unfolding Free under
 leaf-ends s [] x f l b h = absurd (omega arith)
@@ -68,7 +69,8 @@ module _ (node : Strings → Forest → Forest) (make : (s : Strings) (more : Fo
       (two-bare (differing above (strip p s)) (strip p s) (remains p x), b)
 
 -- ONE PATH AND VALUE PER LEAF
-pub bare-added : (n : ℕ) (above : Above) (f : Forest) (x : Key) → Sound n above f → Bare f → All (λ y. Free y x) (keys [] f) → Bare (added above f x)
+pub bare-added : (n : ℕ) (above : Above) (f : Forest) (x : Key) → Sound n above f → Bare f → All (λ y. Free y x) (keys [] f)
+    → Bare (added above f x)
 unfolding added Bare alone Sound keys join remains
 bare-added n above none x h b held = (cons {x = remains (x .strings) x} (strip-self (x .strings)) nil, tt)
 bare-added n above (leaf s ts more) x h b held =
@@ -110,16 +112,19 @@ module _ (cs : List (List ℕ → Bool)) (stop : All Stops cs) where
   }
 
   -- .. and where its children ascend they still do
-  pub small-ascending : (t : Forest) (x : Key) → Small cs t → complete cs (x .strings) ≡ true → Ascending root t → Ascending root (added root t x)
+  pub small-ascending : (t : Forest) (x : Key) → Small cs t → complete cs (x .strings) ≡ true → Ascending root t
+      → Ascending root (added root t x)
   unfolding Starts
   small-ascending t x h q o =
       ascending-added (length cs) root t x (h .sound) (complete-wide cs (x .strings) q) tt (all-imp (λ y p. complete-free stop x y q p) (h .whole)) o
 
-  small-grown : (t : Forest) {xs : List Key} → Small cs t → Ascending root t → All (λ x. complete cs (x .strings) ≡ true) xs → Small cs (grown t xs) × Ascending root (grown t xs)
+  small-grown : (t : Forest) {xs : List Key} → Small cs t → Ascending root t → All (λ x. complete cs (x .strings) ≡ true) xs
+      → Small cs (grown t xs) × Ascending root (grown t xs)
   unfolding grown
   small-grown t h o nil = (h, o)
   small-grown t h o (cons {x = x} q a) = small-grown (added root t x) (small-added t x h q) (small-ascending t x h q o) a
 
-  pub small-small : {xs : List Key} → All (λ x. complete cs (x .strings) ≡ true) xs → Small cs (smallTrie xs) × Ascending root (smallTrie xs)
+  pub small-small : {xs : List Key} → All (λ x. complete cs (x .strings) ≡ true) xs
+      → Small cs (smallTrie xs) × Ascending root (smallTrie xs)
   unfolding smallTrie Ascending
   small-small a = small-grown none small-none tt a

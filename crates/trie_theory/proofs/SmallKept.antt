@@ -1,16 +1,16 @@
 -- NOTHING IS LOST AND NOTHING INVENTED: the keys of a trie with a key added are that key and the trie's keys. And the bytes:
 -- an addition makes a trie longer by its growth, to the byte.
 use Prim.Native.Nat.{ℕ, _+_}
-use mathlib.Core.Path.{_≡_, refl, sym, ap, ap₂, _∙_}
+use mathlib.Core.Path.{_≡_, refl, ap, ap₂, _∙_}
 use mathlib.Core.Bool.{Bool, true, false, cond}
 use mathlib.Core.List.{List, [], _∷_, _++_, map}
 use native.Mathlib.Omega.{arith}
 use lib.Dec.{ltb}
 use Rattle.trie_theory.specs.Forest.{Strings, Key, Forest, none, leaf, inner, join, under, keys}
 use Rattle.trie_theory.specs.Lists.{sum}
-use Rattle.trie_theory.specs.Strings.{goesOn, commons, strip, remains, first, total}
+use Rattle.trie_theory.specs.Strings.{commons, strip, remains, first, total}
 use Rattle.trie_theory.specs.Dimensions.{Above, root, below}
-use Rattle.trie_theory.specs.SmallTrie.{meets, ahead, alone, two, differing, split, outcome, added, grown, smallTrie}
+use Rattle.trie_theory.specs.SmallTrie.{alone, two, differing, split, outcome, added, grown, smallTrie}
 use Rattle.trie_theory.specs.Size.{cost, growth}
 use Rattle.trie_theory.proofs.Lists.{map-append}
 use Rattle.trie_theory.proofs.Sums.{sum-append}
@@ -47,7 +47,8 @@ module _ (h : Key → ℕ) where
         (join-assoc k p (strip p s) ∙ ap (join k) (join-strip p s (commons-left s (x .strings)))) in
         omega (arith, sum-append h (keys (join k p) (two d node (strip p s) (remains p x))) (keys k more), e)
 
-  pub sum-added : (above : Above) (k : Strings) (f : Forest) (x : Key) → sum h (keys k (added above f x)) ≡ h (under k x) + sum h (keys k f)
+  pub sum-added : (above : Above) (k : Strings) (f : Forest) (x : Key)
+      → sum h (keys k (added above f x)) ≡ h (under k x) + sum h (keys k f)
   unfolding added keys sum
   sum-added above k none x = sum-alone k x none
   sum-added above k (leaf s ts more) x =
@@ -106,7 +107,8 @@ module _ (h u : ℕ) where
     unfolding two cost
     cost-two d s x = go (ltb (first d (x .strings)) (first d s))
       where
-        go : (b : Bool) → cost h u (cond b (alone x (node s none)) (node s (alone x none))) ≡ h + h + u + total s + c + total (x .strings)
+        go : (b : Bool)
+            → cost h u (cond b (alone x (node s none)) (node s (alone x none))) ≡ h + h + u + total s + c + total (x .strings)
         go true = omega (arith, cost-alone x (node s none), own s none)
         go false = omega (arith, cost-alone x none, own s (alone x none))
 

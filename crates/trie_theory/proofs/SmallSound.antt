@@ -2,8 +2,8 @@
 -- of a held one; and where the children ascend they still do.
 use Prim.Native.Nat.{ℕ, suc, _≤_, _<_}
 use mathlib.Core.Path.{_≡_, refl, sym, ap, subst, _∙_}
-use mathlib.Core.Bool.{Bool, true, false, cond, _&&_, false≢true}
-use mathlib.Core.List.{List, [], _∷_, map}
+use mathlib.Core.Bool.{Bool, true, false, cond, false≢true}
+use mathlib.Core.List.{[], _∷_, map}
 use native.Mathlib.Omega.{arith}
 use lib.ListN.{length, length-append}
 use lib.Dec.{ltb}
@@ -12,10 +12,10 @@ use Rattle.buffer.specs.Lists.{all}
 use Rattle.trie_theory.specs.Forest.{Strings, Key, Forest, none, leaf, inner, join, under, keys, tops}
 use Rattle.trie_theory.specs.Lists.{All, nil, cons}
 use Rattle.trie_theory.specs.Strings.{goesOn, commons, strip, remains, first}
-use Rattle.trie_theory.specs.Dimensions.{Above, root, below, branching}
+use Rattle.trie_theory.specs.Dimensions.{Above, below, branching}
 use Rattle.trie_theory.specs.SmallTrie.{meets, ahead, alone, two, differing, split, added}
 use Rattle.trie_theory.specs.Sound.{Starts, Wide, Node, Sound, Ascending}
-use Rattle.trie_theory.proofs.Lists.{not-true, and-both, all-append, all-left, all-right, all-unmap, all-imp, all-tested, all-test}
+use Rattle.trie_theory.proofs.Lists.{and-both, all-append, all-left, all-right, all-unmap, all-imp, all-tested, all-test}
 use Rattle.trie_theory.proofs.Prefix.{From, goesOn-prefixes, commons-left}
 use Rattle.trie_theory.proofs.Strings.{length-strip, length-commons}
 use Rattle.trie_theory.proofs.Branching.{branching-prefix, meets-false}
@@ -25,12 +25,14 @@ use Rattle.trie_theory.proofs.SoundLaws.{top, top-starts, some-key}
 use Rattle.trie_theory.proofs.SmallStep.{added-leaf, added-inner}
 
 -- the branching byte of what a node has in common with a key that has its byte
-commons-branching : (above : Above) (s k : Strings) → Starts above s → Starts above k → meets above s k ≡ true → branching above (commons s k) ≡ branching above s
+commons-branching : (above : Above) (s k : Strings) → Starts above s → Starts above k → meets above s k ≡ true
+    → branching above (commons s k) ≡ branching above s
 commons-branching above s k f g m = branching-prefix above (commons s k) s (commons-starts above s k f g m) (commons-left s k)
 
 -- The branching bytes after an addition are those before, and perhaps the key's
 tops-added : (Q : ℕ → Type 0) (n : ℕ) (above : Above) (f : Forest) (x : Key) → Sound n above f → Starts above (x .strings)
-    → Q (branching above (x .strings)) → All (λ t. Q (branching above t)) (tops f) → All (λ t. Q (branching above t)) (tops (added above f x))
+    → Q (branching above (x .strings)) → All (λ t. Q (branching above t)) (tops f)
+    → All (λ t. Q (branching above t)) (tops (added above f x))
 unfolding Sound tops added alone split
 tops-added Q n above none x h sx q a = cons q nil
 tops-added Q n above (leaf s ts more) x h sx q (cons b a) =
@@ -58,16 +60,19 @@ width-added above (inner d s kids more) x =
     (λ m g. omega arith) (λ m g. omega arith) (λ m g. omega arith) (λ m g. omega (arith, width-added above more x))
 
 -- a byte below those of all tries is none of theirs
-ahead-apart : (above : Above) (k : Strings) (f : Forest) → ahead above k f ≡ true → All (λ t. branching above k ≡ branching above t → ⊥) (tops f)
+ahead-apart : (above : Above) (k : Strings) (f : Forest) → ahead above k f ≡ true
+    → All (λ t. branching above k ≡ branching above t → ⊥) (tops f)
 unfolding ahead
 ahead-apart above k f a =
     all-imp (λ t l e. let m = ltb-true (branching above k) (branching above t) l in omega arith) (all-tested (λ t. ltb (branching above k) (branching above t)) (tops f) a)
 
 -- what a key is below an inner node with which it agrees: free, and with the branching byte
-pub below-free : (s : Strings) (kids : Forest) (x : Key) → From s x → All (Free x) (keys s kids) → All (Free (remains s x)) (keys [] kids)
+pub below-free : (s : Strings) (kids : Forest) (x : Key) → From s x → All (Free x) (keys s kids)
+    → All (Free (remains s x)) (keys [] kids)
 below-free s kids x f a = all-unmap (under s) (λ y h. free-below s x y f h) (keys [] kids) (subst (All (Free x)) (keys-from s kids) a)
 
-below-starts : (n d : ℕ) (kids : Forest) (x : Key) → Sound n (below d) kids → 2 ≤ length (tops kids) → All (Free x) (keys [] kids) → Starts (below d) (x .strings)
+below-starts : (n d : ℕ) (kids : Forest) (x : Key) → Sound n (below d) kids → 2 ≤ length (tops kids) → All (Free x) (keys [] kids)
+    → Starts (below d) (x .strings)
 unfolding join
 below-starts n d kids x h w a =
     let y = some-key n (below d) [] kids h (omega arith) a in
@@ -75,7 +80,8 @@ below-starts n d kids x h w a =
 
 module _ (n : ℕ) where
   alone-sound : (above : Above) (x : Key) (more : Forest) → Wide n x → Starts above (x .strings)
-      → All (λ t. branching above (x .strings) ≡ branching above t → ⊥) (tops more) → Sound n above more → Sound n above (alone x more)
+      → All (λ t. branching above (x .strings) ≡ branching above t → ⊥) (tops more) → Sound n above more
+      → Sound n above (alone x more)
   unfolding Sound alone remains
   alone-sound above x more w s a h =
       (record { wide = w; starts = s; apart = a }, omega arith, cons (length-strip (x .strings) (x .strings) ∙ w) nil, h)
@@ -101,8 +107,10 @@ module _ (n : ℕ) where
           make (below d) s (alone x none) (record { wide = ls; starts = fs; apart = cons apart nil }) (alone-sound (below d) x none lx fx nil tt),
         )
 
-    split-sound : (above : Above) (s : Strings) (x y : Key) (more : Forest) → Node n above s more → Sound n above more → Wide n x → Starts above (x .strings)
-        → meets above s (x .strings) ≡ true → goesOn s (x .strings) ≡ false → Free x y → From s y → Sound n above (split above node s x more)
+    split-sound : (above : Above) (s : Strings) (x y : Key) (more : Forest) → Node n above s more → Sound n above more → Wide n x
+        → Starts above (x .strings)
+        → meets above s (x .strings) ≡ true → goesOn s (x .strings) ≡ false → Free x y → From s y
+        → Sound n above (split above node s x more)
     unfolding split Sound remains
     split-sound above s x y more h hm w sx m g free from =
         let k = x .strings in
@@ -123,7 +131,8 @@ module _ (n : ℕ) where
         )
 
   -- SOUND TRIES STAY SOUND
-  pub sound-added : (above : Above) (f : Forest) (x : Key) → Sound n above f → Wide n x → Starts above (x .strings) → All (Free x) (keys [] f)
+  pub sound-added : (above : Above) (f : Forest) (x : Key) → Sound n above f → Wide n x → Starts above (x .strings)
+      → All (Free x) (keys [] f)
       → Sound n above (added above f x)
   unfolding added Sound keys join tops remains
   sound-added above none x h w sx free = alone-sound above x none w sx nil tt
@@ -160,12 +169,14 @@ module _ (n : ℕ) where
       ))
 
 -- a byte that is neither a node's nor below those of the node and its later siblings, which ascend, is above the node's
-later-above : (above : Above) (s k : Strings) (f more : Forest) → tops f ≡ s ∷ tops more → ahead above s more ≡ true → meets above s k ≡ false → ahead above k f ≡ false
+later-above : (above : Above) (s k : Strings) (f more : Forest) → tops f ≡ s ∷ tops more → ahead above s more ≡ true
+    → meets above s k ≡ false → ahead above k f ≡ false
     → ltb (branching above s) (branching above k) ≡ true
 unfolding ahead
 later-above above s k f more e a m b = go (ltb (branching above s) (branching above k)) refl
   where
-    less : (t : Strings) → branching above k < branching above s → ltb (branching above s) (branching above t) ≡ true → ltb (branching above k) (branching above t) ≡ true
+    less : (t : Strings) → branching above k < branching above s → ltb (branching above s) (branching above t) ≡ true
+        → ltb (branching above k) (branching above t) ≡ true
     less t l h = let q = ltb-true (branching above s) (branching above t) h in lt-ltb (branching above k) (branching above t) (omega arith)
 
     go : (w : Bool) → ltb (branching above s) (branching above k) ≡ w → w ≡ true
@@ -187,13 +198,15 @@ module _ (node : Strings → Forest → Forest)
   unfolding two Ascending ahead branching alone tops
   two-ascending d s x apart = go (ltb (first d (x .strings)) (first d s)) refl
     where
-      go : (w : Bool) → ltb (first d (x .strings)) (first d s) ≡ w → Ascending (below d) (cond w (alone x (node s none)) (node s (alone x none)))
+      go : (w : Bool) → ltb (first d (x .strings)) (first d s) ≡ w
+          → Ascending (below d) (cond w (alone x (node s none)) (node s (alone x none)))
       go true e = (rw (own s none) (and-both e refl), make (below d) s none refl tt)
       go false e =
           make (below d) s (alone x none)
           (and-both (lt-ltb (first d s) (first d (x .strings)) (let l = ltb-false (first d (x .strings)) (first d s) e in omega arith)) refl) (refl, tt)
 
-  split-ascending : (n : ℕ) (above : Above) (s : Strings) (x y : Key) (more : Forest) → Node n above s more → Wide n x → Starts above (x .strings)
+  split-ascending : (n : ℕ) (above : Above) (s : Strings) (x y : Key) (more : Forest) → Node n above s more → Wide n x
+      → Starts above (x .strings)
       → meets above s (x .strings) ≡ true → goesOn s (x .strings) ≡ false → Free x y → From s y
       → ahead above s more ≡ true → Ascending above more → Ascending above (split above node s x more)
   unfolding split Ascending ahead remains
@@ -206,14 +219,16 @@ module _ (node : Strings → Forest → Forest)
       (rw (commons-branching above s k (h .starts) sx m) a, two-ascending d (strip p s) (remains p x) (lefts-differ d s k fs fx), b)
 
 ahead-added : (n : ℕ) (above : Above) (s : Strings) (f : Forest) (x : Key) → Sound n above f → Starts above (x .strings)
-    → ahead above s f ≡ true → ltb (branching above s) (branching above (x .strings)) ≡ true → ahead above s (added above f x) ≡ true
+    → ahead above s f ≡ true → ltb (branching above s) (branching above (x .strings)) ≡ true
+    → ahead above s (added above f x) ≡ true
 unfolding ahead
 ahead-added n above s f x h sx a l =
     let t : Strings → Bool = λ t. ltb (branching above s) (branching above t) in
     all-test t (tops-added (λ b. ltb (branching above s) b ≡ true) n above f x h sx l (all-tested t (tops f) a))
 
 -- CHILDREN THAT ASCEND STILL DO
-pub ascending-added : (n : ℕ) (above : Above) (f : Forest) (x : Key) → Sound n above f → Wide n x → Starts above (x .strings) → All (Free x) (keys [] f)
+pub ascending-added : (n : ℕ) (above : Above) (f : Forest) (x : Key) → Sound n above f → Wide n x → Starts above (x .strings)
+    → All (Free x) (keys [] f)
     → Ascending above f → Ascending above (added above f x)
 unfolding added Sound Ascending keys join tops remains alone ahead
 ascending-added n above none x h w sx free o = (refl, tt)

@@ -10,7 +10,8 @@ use Rattle.trie_theory.specs.SmallTrie.{meets, ahead, alone, split, outc
 
 module _ {A : Type 0} (P : A → Type 0) (above : Above) (s : Strings) (f : Forest) (k : Strings) (agrees differs before later : A) where
   outcomes : (meets above s k ≡ true → goesOn s k ≡ true → P agrees) → (meets above s k ≡ true → goesOn s k ≡ false → P differs)
-      → (meets above s k ≡ false → ahead above k f ≡ true → P before) → (meets above s k ≡ false → ahead above k f ≡ false → P later)
+      → (meets above s k ≡ false → ahead above k f ≡ true → P before)
+      → (meets above s k ≡ false → ahead above k f ≡ false → P later)
       → P (outcome above s f k agrees differs before later)
   unfolding outcome
   outcomes a b c d = go (meets above s k) refl (goesOn s k) refl (ahead above k f) refl

@@ -1,22 +1,21 @@
 -- What holds of every sound trie, a level's or a small one: it has keys, which go on from the strings of its nodes, and it
 -- has at most 2 N - 1 nodes, so many bytes, and so much height.
-use Prim.Native.Nat.{ℕ, zero, suc, _+_, _*_, _≤_, max}
-use mathlib.Core.Path.{_≡_, refl, sym, ap, _∙_}
-use mathlib.Core.List.{List, [], _∷_, _++_, map}
-use native.Mathlib.Nat.{mul-suc}
+use Prim.Native.Nat.{ℕ, suc, _+_, _*_, _≤_}
+use mathlib.Core.Path.{sym, _∙_}
+use mathlib.Core.List.{List, [], _∷_, map}
 use native.Mathlib.Omega.{arith}
 use lib.ListN.{length, getD, length-append, length-map}
 use Rattle.trie_theory.specs.Forest.{Strings, Key, Forest, none, leaf, inner, join, under, keys, tops}
-use Rattle.trie_theory.specs.Lists.{All, nil, cons, sum}
-use Rattle.trie_theory.specs.Strings.{strip, at, total}
+use Rattle.trie_theory.specs.Lists.{All, nil, sum}
+use Rattle.trie_theory.specs.Strings.{strip, total}
 use Rattle.trie_theory.specs.Dimensions.{Above, root, below}
-use Rattle.trie_theory.specs.Sound.{Starts, Wide, Node, Sound}
+use Rattle.trie_theory.specs.Sound.{Starts, Wide, Sound}
 use Rattle.trie_theory.specs.Size.{cost, nodes, height}
-use Rattle.trie_theory.proofs.Lists.{all-append, all-left, all-right, all-map, all-unmap, all-head, all-every, all-imp}
+use Rattle.trie_theory.proofs.Lists.{all-append, all-left, all-right, all-map, all-head, all-every, all-imp}
 use Rattle.trie_theory.proofs.Sums.{sum-append, sum-map, sum-more, sum-most}
-use Rattle.trie_theory.proofs.Prefix.{From, Prefixes, prefixes-join, prefixes-trans}
-use Rattle.trie_theory.proofs.Strings.{join-assoc, join-strip, length-join, total-join, total-strip, total-strip-strip, some-total}
-use Rattle.trie_theory.proofs.Keys.{from-under, all-keys, keys-from}
+use Rattle.trie_theory.proofs.Prefix.{From, prefixes-join, prefixes-trans}
+use Rattle.trie_theory.proofs.Strings.{length-join, total-join, total-strip, total-strip-strip, some-total}
+use Rattle.trie_theory.proofs.Keys.{all-keys, keys-from}
 
 -- the strings of the first trie
 abbrev pub top : Forest → Strings
@@ -66,7 +65,8 @@ wide-keys n above (inner d s kids more) h =
     (wide-keys n above more (h .3))
 
 -- THE NODES of N keys are at most 2 N - 1
-pub nodes-known : (n : ℕ) (above : Above) (k : Strings) (f : Forest) → Sound n above f → nodes f + length (tops f) ≤ 2 * length (keys k f)
+pub nodes-known : (n : ℕ) (above : Above) (k : Strings) (f : Forest) → Sound n above f
+    → nodes f + length (tops f) ≤ 2 * length (keys k f)
 unfolding Sound tops keys nodes
 nodes-known n above k none h = omega arith
 nodes-known n above k (leaf s ts more) h =
@@ -136,7 +136,8 @@ module _ (h u n : ℕ) where
   heads-two (t ∷ t′ ∷ ts) l = omega arith
 
   -- each byte of a key stands once, each node has its share in one of its keys and one is left over for each sibling
-  cost-known : (above : Above) (k : Strings) (f : Forest) → Sound n above f → cost h u f + sum (λ t. h) (tops f) ≤ sum (share h u k) (keys k f)
+  cost-known : (above : Above) (k : Strings) (f : Forest) → Sound n above f
+      → cost h u f + sum (λ t. h) (tops f) ≤ sum (share h u k) (keys k f)
   unfolding Sound cost keys tops sum under
   cost-known above k none w = omega arith
   cost-known above k (leaf s ts more) w =

@@ -3,7 +3,7 @@ use Prim.Native.Nat.{ℕ, zero, suc, _+_, _≤_, _<_}
 use mathlib.Core.Path.{_≡_, refl, sym, ap, ap₂, _∙_}
 use mathlib.Core.List.{List, [], _∷_, _++_, append-assoc, append-nil}
 use native.Mathlib.Omega.{arith}
-use lib.ListN.{length, drop, length-append, length-drop}
+use lib.ListN.{length, drop, length-append}
 use Rattle.trie_theory.specs.Forest.{Strings, Key, join}
 use Rattle.trie_theory.specs.Lists.{All, nil, cons}
 use Rattle.trie_theory.specs.Strings.{commons, strip, at, first, total}
@@ -146,7 +146,8 @@ pub total-strip : (p s : Strings) → Prefixes p s → total s ≡ total p + tot
 total-strip p s h = sym (ap total (join-strip p s h)) ∙ total-join p (strip p s)
 
 -- behind k, then behind p
-pub total-strip-strip : (k p s : Strings) → Prefixes k p → Prefixes p s → total (strip k s) ≡ total (strip k p) + total (strip p s)
+pub total-strip-strip : (k p s : Strings) → Prefixes k p → Prefixes p s
+    → total (strip k s) ≡ total (strip k p) + total (strip p s)
 total-strip-strip k p s f g =
     let a = total-strip k p f in
     let b = total-strip p s g in

@@ -51,7 +51,8 @@ sum-below h g nil = omega arith
 sum-below h g (cons e a) = let r = sum-below h g a in omega arith
 
 -- more by a in each is more by a in all, where there is one
-pub sum-more : {A : Type 0} (a : ℕ) (h g : A → ℕ) {xs : List A} → 1 ≤ length xs → All (λ x. a + h x ≤ g x) xs → a + sum h xs ≤ sum g xs
+pub sum-more : {A : Type 0} (a : ℕ) (h g : A → ℕ) {xs : List A} → 1 ≤ length xs → All (λ x. a + h x ≤ g x) xs
+    → a + sum h xs ≤ sum g xs
 unfolding sum
 sum-more a h g l nil = absurd (omega arith)
 sum-more a h g l (cons {xs = xs} e r) = omega (arith, sum-below h g (all-imp (λ x m. omega arith) r))
@@ -93,7 +94,8 @@ unfolding any sum
 any-positive t [] = refl
 any-positive t (x ∷ xs) = go (t x) (any-positive t xs)
   where
-    go : (b : Bool) → any t xs ≡ ltb 0 (sum (λ x. cond (t x) 1 0) xs) → b || any t xs ≡ ltb 0 (cond b 1 0 + sum (λ x. cond (t x) 1 0) xs)
+    go : (b : Bool) → any t xs ≡ ltb 0 (sum (λ x. cond (t x) 1 0) xs)
+        → b || any t xs ≡ ltb 0 (cond b 1 0 + sum (λ x. cond (t x) 1 0) xs)
     go true e = sym (lt-ltb 0 (1 + sum (λ x. cond (t x) 1 0) xs) (omega arith))
     go false e = e ∙ ap (ltb 0) (sym (zero-add (sum (λ x. cond (t x) 1 0) xs)))
 
@@ -105,7 +107,8 @@ module _ {A : Type 0} (xs ys : List A) (equal : (h : A → ℕ) → sum h xs ≡
   pub equal-picked : (t : A → Bool) (h : A → ℕ) → sum h (pick t xs) ≡ sum h (pick t ys)
   equal-picked t h = sum-picked h t xs ∙ equal (λ x. cond (t x) (h x) 0) ∙ sym (sum-picked h t ys)
 
-  pub equal-all : (t : A → Bool) (Q : A → Type 0) → ((x : A) → t x ≡ true → Q x) → ((x : A) → Q x → t x ≡ true) → All Q ys → All Q xs
+  pub equal-all : (t : A → Bool) (Q : A → Type 0) → ((x : A) → t x ≡ true → Q x) → ((x : A) → Q x → t x ≡ true) → All Q ys
+      → All Q xs
   equal-all t Q f g a =
       let h : A → ℕ = λ x. cond (t x) 0 1 in
       back (sum-zero h xs (equal h ∙ sum-equal h (λ x. 0) (zeros a) ∙ sum-none ys))

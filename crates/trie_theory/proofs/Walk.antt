@@ -1,8 +1,8 @@
 -- The nodes of a key: no more than the trie is high, with positions that are no more than one past the key's ends.
-use Prim.Native.Nat.{ℕ, zero, suc, _≤_, max}
+use Prim.Native.Nat.{ℕ, suc, _≤_, max}
 use mathlib.Core.Path.{_≡_, refl}
 use mathlib.Core.Bool.{Bool, true, false, cond}
-use mathlib.Core.List.{List, [], _∷_, map}
+use mathlib.Core.List.{[], _∷_, map}
 use native.Mathlib.Omega.{arith}
 use lib.ListN.{length}
 use Rattle.trie_theory.specs.Forest.{Strings, Key, Forest, none, leaf, inner, join, keys}
@@ -11,7 +11,7 @@ use Rattle.trie_theory.specs.Strings.{goesOn}
 use Rattle.trie_theory.specs.Walk.{Step, stepAt, walk}
 use Rattle.trie_theory.specs.Size.{height}
 use Rattle.trie_theory.proofs.Lists.{all-head, all-tail}
-use Rattle.trie_theory.proofs.Prefix.{Prefix, Prefixes, prefix-length, goesOn-prefixes}
+use Rattle.trie_theory.proofs.Prefix.{Prefixes, prefix-length, goesOn-prefixes}
 
 -- NO MORE NODES THAN THE TRIE IS HIGH
 pub walk-height : (k : Strings) (f : Forest) (x : Key) → length (walk k f x) ≤ height f
@@ -61,7 +61,8 @@ module _ (B : ℕ) (x : Key) (short : All (λ l. length l ≤ B) (x .strings)) w
       go false e r = r
   walk-most k (inner d s kids more) = go (goesOn (join k s) (x .strings)) refl (walk-most (join k s) kids) (walk-most k more)
     where
-      go : (w : Bool) → goesOn (join k s) (x .strings) ≡ w → All (AtMost (suc B)) (walk (join k s) kids x) → All (AtMost (suc B)) (walk k more x)
+      go : (w : Bool) → goesOn (join k s) (x .strings) ≡ w → All (AtMost (suc B)) (walk (join k s) kids x)
+          → All (AtMost (suc B)) (walk k more x)
           → All (AtMost (suc B)) (cond w (stepAt (join k s) (length (keys (join k s) kids)) (suc d) ∷ walk (join k s) kids x) (walk k more x))
       go true e q r = cons (step-most (join k s) (length (keys (join k s) kids)) (suc d) e) q
       go false e q r = r

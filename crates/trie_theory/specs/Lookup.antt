@@ -1,5 +1,4 @@
 -- Looking a key up in a trie, by walking down with its bytes.
-use Prim.Native.Nat.{ℕ}
 use mathlib.Core.Bool.{Bool, false, cond, _&&_}
 use mathlib.Core.List.{List}
 use lib.Dec.{eqb}

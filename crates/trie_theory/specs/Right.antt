@@ -1,4 +1,4 @@
--- What is proved of levels and of small tries alike (proofs/Right.antt): the trie of a list of keys.
+-- What is proved of every sound trie, so of levels and of small tries alike (proofs/Right.antt): the trie of a list of keys.
 use Prim.Native.Nat.{ℕ, suc, _+_, _*_, _≤_}
 use mathlib.Core.Path.{_≡_}
 use mathlib.Core.Bool.{Bool, true}
@@ -10,15 +10,14 @@ use Rattle.trie_theory.specs.Strings.{goesOn}
 use Rattle.trie_theory.specs.Dimensions.{root}
 use Rattle.trie_theory.specs.Lookup.{among, member}
 use Rattle.trie_theory.specs.Search.{found}
-use Rattle.trie_theory.specs.Sound.{Sound, Ascending}
+use Rattle.trie_theory.specs.Sound.{Sound}
 use Rattle.trie_theory.specs.Encode.{encode}
 use Rattle.trie_theory.specs.Size.{nodes, height}
 
 -- t is a trie of the keys xs of n dimensions, each of at most m bytes and a reference of 20
 pub record TrieOf (n m : ℕ) (xs : List Key) (t : Forest) : Type 0 where
-  -- each child begins with its branching byte, siblings differ in it and ascend, inner nodes have two or more children
+  -- each child begins with its branching byte, siblings differ in it, inner nodes have two or more children
   pub sound : Sound n root t
-  pub ascending : Ascending root t
   -- nothing is lost or added: as many keys of t as of xs pass any test, so each key stands there as often
   pub kept : (p : Key → Bool) → count p (keys [] t) ≡ count p xs
   -- a key is found by walking down with its bytes exactly if it is one of xs

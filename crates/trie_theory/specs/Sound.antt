@@ -3,7 +3,7 @@
 use Prim.Native.Nat.{ℕ, _≤_}
 use mathlib.Core.Path.{_≡_}
 use mathlib.Core.Bool.{true}
-use mathlib.Core.List.{List, []}
+use mathlib.Core.List.{[]}
 use lib.ListN.{length}
 use Rattle.trie_theory.specs.Forest.{Strings, Key, Forest, none, leaf, inner, tops}
 use Rattle.trie_theory.specs.Lists.{All}

@@ -3,15 +3,12 @@ use mathlib.Core.Path.{_≡_, refl}
 use Prim.Native.Nat.{ℕ}
 use Prim.Native.String.{String}
 use Prim.Native.Char.{code}
-use mathlib.Core.Bool.{Bool, true, false}
 use mathlib.Core.List.{List, [], _∷_, _++_, map}
 use lib.ListN.{replicate}
 use Rattle.trie_theory.specs.Forest.{Strings, Key, Forest, none, leaf, inner}
-use Rattle.trie_theory.specs.Dimensions.{root}
 use Rattle.trie_theory.specs.Position.{position}
+use Rattle.trie_theory.specs.Parts.{parts}
 use Rattle.trie_theory.specs.Level.{levelOf}
-use Rattle.trie_theory.specs.SmallTrie.{smallTrie}
-use Rattle.trie_theory.specs.Lookup.{member}
 use Rattle.trie_theory.specs.Walk.{Step, walk}
 
 -- the bytes of a text
@@ -164,3 +161,9 @@ years =
 pub table5 : levelOf 2 2 rows ≡ inner 0 (pair (0 ∷ 0 ∷ 0 ∷ 0 ∷ []) (text "/")) years none
 unfolding levelOf
 table5 = refl
+
+-- a partition has parts for the first and the last of all bytes, ascending
+pub all-bytes : parts 0 (entry (255 ∷ []) [] r1 ∷ entry (0 ∷ []) [] r2 ∷ entry (255 ∷ []) [] r3 ∷ [])
+    ≡ (entry (0 ∷ []) [] r2 ∷ []) ∷ (entry (255 ∷ []) [] r1 ∷ entry (255 ∷ []) [] r3 ∷ []) ∷ []
+unfolding parts
+all-bytes = refl
