@@ -16,6 +16,7 @@ pub mod SmallStep
 pub mod SmallKept
 pub mod Free
 pub mod SmallSound
+pub mod SmallAscending
 pub mod Complete
 pub mod SmallBare
 pub mod Encode
@@ -25,3 +26,4 @@ pub mod Fall
 pub mod Walk
 pub mod LevelWalk
 pub mod Route
+pub mod NodeStrings

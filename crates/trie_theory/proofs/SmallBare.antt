@@ -9,7 +9,7 @@ use lib.ListN.{length}
 use lib.Dec.{ltb}
 use Rattle.trie_theory.specs.Forest.{Strings, Key, Forest, none, leaf, inner, join, under, keys}
 use Rattle.trie_theory.specs.Lists.{All, nil, cons, sum}
-use Rattle.trie_theory.specs.Strings.{commons, strip, remains, at, first, total}
+use Rattle.trie_theory.specs.Strings.{goesOn, commons, strip, remains, at, first, total}
 use Rattle.trie_theory.specs.Dimensions.{Above, root, below}
 use Rattle.trie_theory.specs.SmallTrie.{alone, two, differing, split, added, grown, smallTrie}
 use Rattle.trie_theory.specs.Sound.{Starts, Sound, Ascending, Bare}
@@ -21,9 +21,10 @@ use Rattle.trie_theory.proofs.Strings.{at-join, at-total, total-strip}
 use Rattle.trie_theory.proofs.Keys.{keys-from}
 use Rattle.trie_theory.proofs.Free.{Free, at-split, held-below}
 use Rattle.trie_theory.proofs.Complete.{complete-wide, complete-free}
-use Rattle.trie_theory.proofs.SmallStep.{added-leaf, added-inner}
+use Rattle.trie_theory.proofs.SmallStep.{placed, placed-cases}
 use Rattle.trie_theory.proofs.SmallKept.{sum-added}
-use Rattle.trie_theory.proofs.SmallSound.{sound-added, ascending-added}
+use Rattle.trie_theory.proofs.SmallSound.{sound-added}
+use Rattle.trie_theory.proofs.SmallAscending.{ascending-added}
 
 -- strings have no byte exactly if they have none in any dimension
 total-none : (s : Strings) → ((d : ℕ) → at d s ≡ []) → total s ≡ 0
@@ -53,42 +54,46 @@ leaf-ends s (t ∷ ts) x f l b h =
     ∙ ap (λ (l : List ℕ). l ++ at d (strip s (x .strings)))
     (sym (at-join d s (t .strings) ∙ ap (λ (l : List ℕ). at d s ++ l) (none-total (t .strings) (all-head b) d) ∙ append-nil (at d s)))))
 
+alone-bare : (x : Key) (more : Forest) → Bare more → Bare (alone x more)
+unfolding Bare alone remains
+alone-bare x more b = (cons {x = remains (x .strings) x} (strip-self (x .strings)) nil, b)
+
 module _ (node : Strings → Forest → Forest) (make : (s : Strings) (more : Forest) → Bare more → Bare (node s more)) where
   two-bare : (d : ℕ) (s : Strings) (x : Key) → Bare (two d node s x)
-  unfolding two Bare alone remains
+  unfolding two Bare
   two-bare d s x = go (ltb (first d (x .strings)) (first d s))
     where
       go : (w : Bool) → Bare (cond w (alone x (node s none)) (node s (alone x none)))
-      go true = (cons {x = remains (x .strings) x} (strip-self (x .strings)) nil, make s none tt)
-      go false = make s (alone x none) (cons {x = remains (x .strings) x} (strip-self (x .strings)) nil, tt)
+      go true = alone-bare x (node s none) (make s none tt)
+      go false = make s (alone x none) (alone-bare x none tt)
 
-  split-bare : (above : Above) (s : Strings) (x : Key) (more : Forest) → Bare more → Bare (split above node s x more)
+  placed-bare : (above : Above) (s : Strings) (x : Key) (agreed more later : Forest) → Bare more
+      → (goesOn s (x .strings) ≡ true → Bare agreed) → Bare later → Bare (placed above node s x agreed more later)
   unfolding split Bare
-  split-bare above s x more b =
+  placed-bare above s x agreed more later b ha hl =
       let p = commons s (x .strings) in
-      (two-bare (differing above (strip p s)) (strip p s) (remains p x), b)
+      placed-cases Bare above node s x agreed more later
+      (λ m g. ha g)
+      (λ m g. (two-bare (differing above (strip p s)) (strip p s) (remains p x), b))
+      (λ m a. alone-bare x (node s more) (make s more b))
+      (λ m a. make s later hl)
 
 -- ONE PATH AND VALUE PER LEAF
 pub bare-added : (n : ℕ) (above : Above) (f : Forest) (x : Key) → Sound n above f → Bare f → All (λ y. Free y x) (keys [] f)
     → Bare (added above f x)
 unfolding added Bare alone Sound keys join remains
-bare-added n above none x h b held = (cons {x = remains (x .strings) x} (strip-self (x .strings)) nil, tt)
+bare-added n above none x h b held = alone-bare x none tt
 bare-added n above (leaf s ts more) x h b held =
-    added-leaf Bare above s ts more x
-    (λ m g. (
-      all-append (b .0) (cons {x = remains s x}
-          (leaf-ends s ts x (goesOn-prefixes s (x .strings) g) (h .1) (b .0) (all-left (map (under s) ts) (keys [] more) held)) nil),
-      b .1,
-    ))
-    (λ m g. split-bare (λ s′ more′. leaf s′ ts more′) (λ s′ more′ r. (b .0, r)) above s x more (b .1))
-    (λ m a. (cons {x = remains (x .strings) x} (strip-self (x .strings)) nil, b))
-    (λ m a. (b .0, bare-added n above more x (h .3) (b .1) (all-right (map (under s) ts) (keys [] more) held)))
+    placed-bare (λ s′ m. leaf s′ ts m) (λ s′ m r. (b .0, r)) above s x (leaf s (ts ++ (remains s x ∷ [])) more) more (added above more x) (b .1)
+    (λ g.
+    let none-left = leaf-ends s ts x (goesOn-prefixes s (x .strings) g) (h .1) (b .0) (all-left (map (under s) ts) (keys [] more) held) in
+    (all-append (b .0) (cons {x = remains s x} none-left nil), b .1))
+    (bare-added n above more x (h .3) (b .1) (all-right (map (under s) ts) (keys [] more) held))
 bare-added n above (inner d s kids more) x h b held =
-    added-inner Bare above d s kids more x
-    (λ m g. (bare-added n (below d) kids (remains s x) (h .2) (b .0) (below-held (goesOn-prefixes s (x .strings) g)), b .1))
-    (λ m g. split-bare (λ s′ more′. inner d s′ kids more′) (λ s′ more′ r. (b .0, r)) above s x more (b .1))
-    (λ m a. (cons {x = remains (x .strings) x} (strip-self (x .strings)) nil, b))
-    (λ m a. (b .0, bare-added n above more x (h .3) (b .1) (all-right (keys s kids) (keys [] more) held)))
+    placed-bare (λ s′ m. inner d s′ kids m) (λ s′ m r. (b .0, r))
+    above s x (inner d s (added (below d) kids (remains s x)) more) more (added above more x) (b .1)
+    (λ g. (bare-added n (below d) kids (remains s x) (h .2) (b .0) (below-held (goesOn-prefixes s (x .strings) g)), b .1))
+    (bare-added n above more x (h .3) (b .1) (all-right (keys s kids) (keys [] more) held))
   where
     below-held : From s x → All (λ y. Free y (remains s x)) (keys [] kids)
     below-held f =

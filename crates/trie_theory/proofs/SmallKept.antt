@@ -8,7 +8,7 @@ use native.Mathlib.Omega.{arith}
 use lib.Dec.{ltb}
 use Rattle.trie_theory.specs.Forest.{Strings, Key, Forest, none, leaf, inner, join, under, keys}
 use Rattle.trie_theory.specs.Lists.{sum}
-use Rattle.trie_theory.specs.Strings.{commons, strip, remains, first, total}
+use Rattle.trie_theory.specs.Strings.{goesOn, commons, strip, remains, first, total}
 use Rattle.trie_theory.specs.Dimensions.{Above, root, below}
 use Rattle.trie_theory.specs.SmallTrie.{alone, two, differing, split, outcome, added, grown, smallTrie}
 use Rattle.trie_theory.specs.Size.{cost, growth}
@@ -17,14 +17,14 @@ use Rattle.trie_theory.proofs.Sums.{sum-append}
 use Rattle.trie_theory.proofs.Prefix.{goesOn-prefixes, prefixes-refl, commons-left, commons-right}
 use Rattle.trie_theory.proofs.Strings.{join-assoc, join-strip, total-strip}
 use Rattle.trie_theory.proofs.Keys.{under-known}
-use Rattle.trie_theory.proofs.SmallStep.{added-leaf, added-inner}
+use Rattle.trie_theory.proofs.SmallStep.{placed, placed-cases}
 
 module _ (h : Key → ℕ) where
   sum-alone : (k : Strings) (x : Key) (more : Forest) → sum h (keys k (alone x more)) ≡ h (under k x) + sum h (keys k more)
   unfolding keys alone sum
   sum-alone k x more = ap (λ (y : Key). h y + sum h (keys k more)) (under-known k (x .strings) x (prefixes-refl (x .strings)))
 
-  -- a node, of which only the strings and the siblings change, has the keys c below the bytes known at it
+  -- a node that has the keys c below the bytes known at it
   module _ (node : Strings → Forest → Forest) (c : Strings → ℕ)
       (own : (k s : Strings) (more : Forest) → sum h (keys k (node s more)) ≡ c (join k s) + sum h (keys k more)) where
     sum-two : (d : ℕ) (k s : Strings) (x : Key) → sum h (keys k (two d node s x)) ≡ h (under k x) + c (join k s)
@@ -47,45 +47,45 @@ module _ (h : Key → ℕ) where
         (join-assoc k p (strip p s) ∙ ap (join k) (join-strip p s (commons-left s (x .strings)))) in
         omega (arith, sum-append h (keys (join k p) (two d node (strip p s) (remains p x))) (keys k more), e)
 
+    sum-placed : (above : Above) (k s : Strings) (x : Key) (agreed more later : Forest)
+        → (goesOn s (x .strings) ≡ true → sum h (keys k agreed) ≡ h (under (join k s) (remains s x)) + sum h (keys k (node s more)))
+        → sum h (keys k later) ≡ h (under k x) + sum h (keys k more)
+        → sum h (keys k (placed above node s x agreed more later)) ≡ h (under k x) + sum h (keys k (node s more))
+    sum-placed above k s x agreed more later a l =
+        placed-cases (λ g. sum h (keys k g) ≡ h (under k x) + sum h (keys k (node s more))) above node s x agreed more later
+        (λ m g. a g ∙ ap (λ (y : Key). h y + sum h (keys k (node s more))) (under-known k s x (goesOn-prefixes s (x .strings) g)))
+        (λ m g. omega (arith, sum-split above k s x more, own k s more))
+        (λ m b. sum-alone k x (node s more))
+        (λ m b. omega (arith, l, own k s later, own k s more))
+
   pub sum-added : (above : Above) (k : Strings) (f : Forest) (x : Key)
       → sum h (keys k (added above f x)) ≡ h (under k x) + sum h (keys k f)
   unfolding added keys sum
   sum-added above k none x = sum-alone k x none
   sum-added above k (leaf s ts more) x =
       let mine = map (under (join k s)) ts in
-      added-leaf (λ g. sum h (keys k g) ≡ h (under k x) + sum h (mine ++ keys k more)) above s ts more x
-      (λ m g. omega (
+      let new = under (join k s) (remains s x) in
+      sum-placed (λ s′ m. leaf s′ ts m) (λ l. sum h (map (under l) ts)) (λ k′ s′ m. sum-append h (map (under (join k′ s′)) ts) (keys k′ m))
+      above k s x (leaf s (ts ++ (remains s x ∷ [])) more) more (added above more x)
+      (λ g. omega (
         arith,
         sum-append h (map (under (join k s)) (ts ++ (remains s x ∷ []))) (keys k more),
         ap (sum h) (map-append (under (join k s)) ts (remains s x ∷ [])),
-        sum-append h mine (under (join k s) (remains s x) ∷ []),
-        sum-append h mine (keys k more),
-        ap h (under-known k s x (goesOn-prefixes s (x .strings) g)),
-      ))
-      (λ m g. omega (
-        arith,
-        sum-split (λ s′ more′. leaf s′ ts more′) (λ l. sum h (map (under l) ts)) (λ k′ s′ more′. sum-append h (map (under (join k′ s′)) ts) (keys k′ more′)) above k s x more,
+        sum-append h mine (new ∷ []),
         sum-append h mine (keys k more),
       ))
-      (λ m a. sum-alone k x (leaf s ts more))
-      (λ m a. omega (arith, sum-added above k more x, sum-append h mine (keys k more), sum-append h mine (keys k (added above more x))))
+      (sum-added above k more x)
   sum-added above k (inner d s kids more) x =
-      let mine = keys (join k s) kids in
-      added-inner (λ g. sum h (keys k g) ≡ h (under k x) + sum h (mine ++ keys k more)) above d s kids more x
-      (λ m g. omega (
+      let grown-kids = added (below d) kids (remains s x) in
+      sum-placed (λ s′ m. inner d s′ kids m) (λ l. sum h (keys l kids)) (λ k′ s′ m. sum-append h (keys (join k′ s′) kids) (keys k′ m))
+      above k s x (inner d s grown-kids more) more (added above more x)
+      (λ g. omega (
         arith,
         sum-added (below d) (join k s) kids (remains s x),
-        sum-append h (keys (join k s) (added (below d) kids (remains s x))) (keys k more),
-        sum-append h mine (keys k more),
-        ap h (under-known k s x (goesOn-prefixes s (x .strings) g)),
+        sum-append h (keys (join k s) grown-kids) (keys k more),
+        sum-append h (keys (join k s) kids) (keys k more),
       ))
-      (λ m g. omega (
-        arith,
-        sum-split (λ s′ more′. inner d s′ kids more′) (λ l. sum h (keys l kids)) (λ k′ s′ more′. sum-append h (keys (join k′ s′) kids) (keys k′ more′)) above k s x more,
-        sum-append h mine (keys k more),
-      ))
-      (λ m a. sum-alone k x (inner d s kids more))
-      (λ m a. omega (arith, sum-added above k more x, sum-append h mine (keys k more), sum-append h mine (keys k (added above more x))))
+      (sum-added above k more x)
 
   sum-grown : (t : Forest) (xs : List Key) → sum h (keys [] (grown t xs)) ≡ sum h xs + sum h (keys [] t)
   unfolding grown sum under join
@@ -112,26 +112,38 @@ module _ (h u : ℕ) where
         go true = omega (arith, cost-alone x (node s none), own s none)
         go false = omega (arith, cost-alone x none, own s (alone x none))
 
-    cost-split : (above : Above) (s : Strings) (x : Key) (more : Forest)
-        → cost h u (split above node s x more) ≡ h + total s + c + cost h u more + (h + h + u + total (strip (commons s (x .strings)) (x .strings)))
-    unfolding split cost remains
-    cost-split above s x more =
+    -- where the outcomes that agree and that go on grow by a and l, the addition grows as its outcome says
+    cost-placed : (above : Above) (s : Strings) (x : Key) (agreed more later : Forest) (a l : ℕ)
+        → cost h u agreed ≡ cost h u (node s more) + a → cost h u later ≡ cost h u more + l
+        → cost h u (placed above node s x agreed more later)
+        ≡ cost h u (node s more) + outcome above s (node s more) (x .strings)
+        a (h + h + u + total (strip (commons s (x .strings)) (x .strings))) (h + u + total (x .strings)) l
+    unfolding outcome split cost remains
+    cost-placed above s x agreed more later a l ea el =
         let p = commons s (x .strings) in
-        omega (arith, cost-two (differing above (strip p s)) (strip p s) (remains p x), total-strip p s (commons-left s (x .strings)))
+        placed-cases (λ g. cost h u g ≡ cost h u (node s more) + outcome above s (node s more) (x .strings)
+        a (h + h + u + total (strip p (x .strings))) (h + u + total (x .strings)) l) above node s x agreed more later
+        (λ m g. rw (m, g) ea)
+        (λ m g. rw (m, g) (omega (
+          arith,
+          cost-two (differing above (strip p s)) (strip p s) (remains p x),
+          total-strip p s (commons-left s (x .strings)),
+          own s more,
+        )))
+        (λ m b. rw (m, b) (omega (arith, cost-alone x (node s more))))
+        (λ m b. rw (m, b) (omega (arith, el, own s later, own s more)))
 
   -- ONE ADDITION, to the byte
   pub cost-added : (above : Above) (f : Forest) (x : Key) → cost h u (added above f x) ≡ cost h u f + growth h u above f x
-  unfolding added cost growth outcome sum remains
+  unfolding added cost growth sum remains
   cost-added above none x = omega (arith, cost-alone x none)
   cost-added above (leaf s ts more) x =
-      added-leaf (λ g. cost h u g ≡ cost h u (leaf s ts more) + growth h u above (leaf s ts more) x) above s ts more x
-      (λ m g. rw (m, g) (omega (arith, sum-append (λ t. u + total (t .strings)) ts (remains s x ∷ []))))
-      (λ m g. rw (m, g) (cost-split (λ s′ more′. leaf s′ ts more′) (sum (λ t. u + total (t .strings)) ts) (λ s′ more′. refl) above s x more))
-      (λ m a. rw (m, a) (omega (arith, cost-alone x (leaf s ts more))))
-      (λ m a. rw (m, a) (omega (arith, cost-added above more x)))
+      cost-placed (λ s′ m. leaf s′ ts m) (sum (λ t. u + total (t .strings)) ts) (λ s′ m. refl)
+      above s x (leaf s (ts ++ (remains s x ∷ [])) more) more (added above more x) (u + total (strip s (x .strings))) (growth h u above more x)
+      (omega (arith, sum-append (λ t. u + total (t .strings)) ts (remains s x ∷ [])))
+      (cost-added above more x)
   cost-added above (inner d s kids more) x =
-      added-inner (λ g. cost h u g ≡ cost h u (inner d s kids more) + growth h u above (inner d s kids more) x) above d s kids more x
-      (λ m g. rw (m, g) (omega (arith, cost-added (below d) kids (remains s x))))
-      (λ m g. rw (m, g) (cost-split (λ s′ more′. inner d s′ kids more′) (cost h u kids) (λ s′ more′. refl) above s x more))
-      (λ m a. rw (m, a) (omega (arith, cost-alone x (inner d s kids more))))
-      (λ m a. rw (m, a) (omega (arith, cost-added above more x)))
+      cost-placed (λ s′ m. inner d s′ kids m) (cost h u kids) (λ s′ m. refl)
+      above s x (inner d s (added (below d) kids (remains s x)) more) more (added above more x) (growth h u (below d) kids (remains s x)) (growth h u above more x)
+      (omega (arith, cost-added (below d) kids (remains s x)))
+      (cost-added above more x)
