@@ -10,14 +10,14 @@ use Rattle.trie_theory.specs.Lists.{All, nil, cons, sum, flat}
 use Rattle.trie_theory.specs.Strings.{remains}
 use Rattle.trie_theory.specs.Dimensions.{Above, root, below}
 use Rattle.trie_theory.specs.Position.{shared}
-use Rattle.trie_theory.specs.Level.{choice, node, each, grow, children, trie, levelOf}
+use Rattle.trie_theory.specs.Level.{choice, node, each, grow, trie, levelOf}
 use Rattle.trie_theory.proofs.Lists.{all-imp, all-every}
 use Rattle.trie_theory.proofs.Sums.{sum-append}
 use Rattle.trie_theory.proofs.Prefix.{Prefixes, From, shared-all, shared-greatest}
 use Rattle.trie_theory.proofs.Strings.{join-strip}
 use Rattle.trie_theory.proofs.Keys.{under-remains}
 use Rattle.trie_theory.proofs.Parts.{Parted, done, part, parted, sum-parts}
-use Rattle.trie_theory.proofs.LevelStep.{choice-differ}
+use Rattle.trie_theory.proofs.LevelStep.{children, choice-differ}
 
 unders : (p : Strings) {ks : List Key} → All (From p) ks → map (under p) (map (remains p) ks) ≡ ks
 unders p nil = refl

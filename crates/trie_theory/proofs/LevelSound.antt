@@ -15,7 +15,7 @@ use Rattle.trie_theory.specs.Strings.{strip, remains, first}
 use Rattle.trie_theory.specs.Dimensions.{Above, root, below, branching}
 use Rattle.trie_theory.specs.Position.{shared}
 use Rattle.trie_theory.specs.Parts.{parts}
-use Rattle.trie_theory.specs.Level.{choice, node, each, grow, children, trie, levelOf}
+use Rattle.trie_theory.specs.Level.{choice, node, each, grow, trie, levelOf}
 use Rattle.trie_theory.specs.SmallTrie.{ahead}
 use Rattle.trie_theory.specs.Sound.{Starts, Wide, Node, Sound, Ascending}
 use Rattle.trie_theory.proofs.Lists.{all-imp, all-both, all-map, all-test}
@@ -23,7 +23,7 @@ use Rattle.trie_theory.proofs.Prefix.{From, shared-all}
 use Rattle.trie_theory.proofs.Strings.{length-strip, length-shared, first-some}
 use Rattle.trie_theory.proofs.Round.{not-some}
 use Rattle.trie_theory.proofs.Parts.{Parted, done, part, parted, part-first, parts-two, differ-inside}
-use Rattle.trie_theory.proofs.LevelStep.{choice-differ}
+use Rattle.trie_theory.proofs.LevelStep.{children, choice-differ}
 
 -- sound and ascending
 abbrev pub Well : ℕ → Above → Forest → Type 0

@@ -15,10 +15,14 @@ use Rattle.trie_theory.specs.Strings.{strip}
 use Rattle.trie_theory.specs.Dimensions.{Above, below, wanted, turn}
 use Rattle.trie_theory.specs.Position.{shared, differ}
 use Rattle.trie_theory.specs.Parts.{parts}
-use Rattle.trie_theory.specs.Level.{choice, node, each, grow, children, trie}
+use Rattle.trie_theory.specs.Level.{choice, node, each, grow, trie}
 use Rattle.trie_theory.proofs.Lists.{all-imp}
 use Rattle.trie_theory.proofs.Round.{not-some, turn-passes, turn-none, turn-inside}
 use Rattle.trie_theory.proofs.Parts.{parts-short}
+
+-- the children of keys that are partitioned in dimension d
+abbrev pub children : ℕ → ℕ → ℕ → List Key → ℕ → Forest
+children n τ f ks d = each (grow n τ f (below d) (shared ks)) (parts d ks)
 
 module _ (n τ : ℕ) (above : Above) (ks : List Key) where
   -- where a dimension is chosen there are more than τ keys, and it is the turn's

@@ -15,14 +15,14 @@ use Rattle.trie_theory.specs.Strings.{goesOn, remains, at}
 use Rattle.trie_theory.specs.Dimensions.{Above, root, below}
 use Rattle.trie_theory.specs.Position.{shared, byte, position, differ}
 use Rattle.trie_theory.specs.Parts.{keep, filled, partsFrom, parts}
-use Rattle.trie_theory.specs.Level.{choice, node, each, grow, children, trie, levelOf}
+use Rattle.trie_theory.specs.Level.{choice, node, each, grow, trie, levelOf}
 use Rattle.trie_theory.specs.Walk.{Step, stepAt, kindOf, follow, sequence, route, walk}
 use Rattle.trie_theory.proofs.Lists.{In, at-head, later, not-true, all-imp, all-head, all-in, all-pick, all-both, all-every, in-pick}
 use Rattle.trie_theory.proofs.Sums.{equal-length}
 use Rattle.trie_theory.proofs.Prefix.{Prefixes, From, shared-all, shared-greatest, prefixes-goesOn, goesOn-prefixes, prefixes-trans}
 use Rattle.trie_theory.proofs.Strings.{join-strip}
 use Rattle.trie_theory.proofs.Parts.{differ-all, differ-inside, extend, extend-in, extend-out}
-use Rattle.trie_theory.proofs.LevelStep.{choice-differ}
+use Rattle.trie_theory.proofs.LevelStep.{children, choice-differ}
 use Rattle.trie_theory.proofs.LevelKept.{kids-sum}
 
 -- two sides of a test

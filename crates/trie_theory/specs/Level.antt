@@ -44,10 +44,6 @@ grow n τ zero above k ks more = node k ks none (λ d. Forest.none) more
 grow n τ (suc f) above k ks more =
     node k ks (choice n τ above ks) (λ d. each (grow n τ f (below d) (shared ks)) (parts d ks)) more
 
--- the children of keys that are partitioned in dimension d
-abbrev pub children : ℕ → ℕ → ℕ → List Key → ℕ → Forest
-children n τ f ks d = each (grow n τ f (below d) (shared ks)) (parts d ks)
-
 -- the same to its end: each part has fewer keys, so as many partitions as keys are enough (law `trie-step`)
 unfoldable pub trie : ℕ → ℕ → Above → Strings → List Key → Forest → Forest
 unfolding grow

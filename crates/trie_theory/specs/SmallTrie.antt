@@ -62,8 +62,8 @@ split above node s x more =
     let d = differing above (strip p s) in
     inner d p (two d node (strip p s) (remains p x)) more
 
--- What befalls a key with the strings k at a node with the strings s, the first of the tries f: it has the node's byte and
--- agrees with all its strings, or differs; or its byte is below those of all tries of f; or none of these
+-- The outcomes for a key with the strings k at a node with the strings s, the first of the tries f: it has the node's byte
+-- and agrees with all its strings, or differs; or its byte is below those of all tries of f; or none of these
 unfoldable pub outcome : {A : Type 0} → Above → Strings → Forest → Strings → A → A → A → A → A
 unfolding meets goesOn ahead
 outcome above s f k agrees differs before later =

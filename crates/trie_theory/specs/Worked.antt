@@ -167,3 +167,21 @@ pub all-bytes : parts 0 (entry (255 ∷ []) [] r1 ∷ entry (0 ∷ []) [] r2 ∷
     ≡ (entry (0 ∷ []) [] r2 ∷ []) ∷ (entry (255 ∷ []) [] r1 ∷ entry (255 ∷ []) [] r3 ∷ []) ∷ []
 unfolding parts
 all-bytes = refl
+
+-- the level drawn in Level.antt
+abbrev pub drawn-keys : List Key
+drawn-keys =
+    entry (value 0 0 0 7) (ended "/north/edge") r1 ∷ entry (value 0 0 0 7) (ended "/north/pond") r2
+    ∷ entry (value 0 0 0 9) (ended "/south/edge") r3 ∷ entry (value 0 0 0 9) (ended "/south/lake") r4 ∷ []
+
+abbrev pub single : String → List ℕ → Forest → Forest
+single p r more = leaf (pair [] (ended p)) (entry [] [] r ∷ []) more
+
+pub drawn :
+    levelOf 2 1 drawn-keys
+    ≡ inner 0 (pair (0 ∷ 0 ∷ 0 ∷ 0 ∷ 0 ∷ 0 ∷ 0 ∷ []) (text "/"))
+    (inner 1 (pair (7 ∷ []) (text "north/")) (single "edge" r1 (single "pond" r2 none))
+    (inner 1 (pair (9 ∷ []) (text "south/")) (single "edge" r3 (single "lake" r4 none))
+    none)) none
+unfolding levelOf
+drawn = refl

@@ -12,7 +12,7 @@ use Rattle.trie_theory.specs.Lists.{any, same}
 use Rattle.trie_theory.specs.Strings.{begins, at}
 use Rattle.trie_theory.specs.Lookup.{sameKey, member}
 use Rattle.trie_theory.specs.Search.{found, nodesEntered}
-use Rattle.trie_theory.specs.Worked.{text, ended, value, reference, pair, entry}
+use Rattle.trie_theory.specs.Worked.{text, ended, value, reference, pair, entry, nine, r1, r2, r3, r4, r5, r6, r7}
 
 -- six zero bytes, a value's first
 abbrev pub six : List ℕ
@@ -22,9 +22,12 @@ six = 0 ∷ 0 ∷ 0 ∷ 0 ∷ 0 ∷ 0 ∷ []
 abbrev pub key : ℕ → ℕ → String → ℕ → Key
 key a b path r = entry (six ++ (a ∷ b ∷ [])) (ended path) (reference r 0 0 0 0)
 
--- a leaf with one such reference
+-- a leaf with one reference, and with one such reference
+abbrev pub held : List ℕ → List ℕ → List ℕ → Forest → Forest
+held v p r more = leaf (pair v p) (entry [] [] r ∷ []) more
+
 abbrev pub one : List ℕ → List ℕ → ℕ → Forest → Forest
-one v p r more = leaf (pair v p) (entry [] [] (reference r 0 0 0 0) ∷ []) more
+one v p r more = held v p (reference r 0 0 0 0) more
 
 -- the listing: 7 /north/pond, 7 /north/edge, 9 /south/edge
 abbrev pub pond : Key
@@ -99,6 +102,35 @@ pub both-below-path :
     none)) none
 unfolding smallTrie
 both-below-path = refl
+
+-- the nine keys of Table 1, added in its sequence; the level of the same keys is Table 5
+abbrev pub days : Forest
+days =
+    inner 1 (pair (0x94 ∷ []) []) (held (0x2A ∷ []) (ended "Map.go") r1 (held (0x8C ∷ []) (ended "Schema.go") r3 none))
+    (inner 1 (pair (0x97 ∷ 0x8B ∷ []) (text "Schedule")) (held [] (ended ".go") r7 (held [] (ended "r.go") r7 none))
+    none)
+
+abbrev pub ext : Forest
+ext =
+    held (0xF2 ∷ 0x9C ∷ 0x59 ∷ []) (ended "3/inode.c") r4
+    (held (0xBD ∷ 0x23 ∷ 0xC2 ∷ []) (ended "4/inode.h") r5
+    none)
+
+abbrev pub latest : Forest
+latest =
+    inner 1 (pair (0x8D ∷ 0xC4 ∷ []) (text "crypto/ecc.")) (held [] (ended "c") r2 (held [] (ended "h") r2 none))
+    (held (0x3D ∷ 0x5A ∷ []) (ended "fs/ext4/inode.c") r6
+    none)
+
+pub nine-keys :
+    smallTrie nine
+    ≡ inner 0 (pair (0 ∷ 0 ∷ 0 ∷ 0 ∷ []) (text "/"))
+    (inner 0 (pair (0x5D ∷ 0xA8 ∷ []) (text "Sources/")) days
+    (inner 1 (pair (0x5E ∷ []) (text "fs/ext")) ext
+    (inner 1 (pair (0x5F ∷ 0xBD ∷ []) []) latest
+    none))) none
+unfolding smallTrie
+nine-keys = refl
 
 -- the lookup walks to what was added, with its reference, and to nothing else
 pub looked-up :
