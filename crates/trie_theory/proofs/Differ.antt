@@ -79,8 +79,10 @@ differ-false d ks free b e y z i j =
     ends (at d p) (at d (u .strings)) (all-in (position-agree d ks) (t .1)) (all-in b (t .1)) (rw (byte-at d p u) at l) in
     let same : (v : Key) → In v ks → at d (u .strings) ≡ at d (v .strings) = λ v k.
     let rest = drop (length (at d (u .strings))) (at d (v .strings)) in
-    let whole = drop-prefix (at d (u .strings)) (at d (v .strings)) (prefix-trans (at d (u .strings)) (at d p) (at d (v .strings)) q (all-in (position-agree d ks) k)) in
-    sym (append-nil (at d (u .strings))) ∙ ap (λ (r : List ℕ). at d (u .strings) ++ r) (sym (free u v (t .1) k d rest (sym whole))) ∙ whole in
+    let whole = drop-prefix (at d (u .strings)) (at d (v .strings))
+    (prefix-trans (at d (u .strings)) (at d p) (at d (v .strings)) q (all-in (position-agree d ks) k)) in
+    sym (append-nil (at d (u .strings)))
+    ∙ ap (λ (r : List ℕ). at d (u .strings) ++ r) (sym (free u v (t .1) k d rest (sym whole))) ∙ whole in
     sym (same y i) ∙ same z j
 
 bytes-at : (d : ℕ) {s : Strings} → All (All (λ b. b < 256)) s → All (λ b. b < 256) (at d s)
@@ -92,7 +94,8 @@ bytes-at (suc d) (cons h a) = bytes-at d a
 pub entries-equal : (d : ℕ) (ks : List Key) → All Entry ks → differ d ks ≡ false → (y z : Key) → In y ks → In z ks
     → at d (y .strings) ≡ at d (z .strings)
 entries-equal d ks a =
-    differ-false d ks (λ y z i j. complete-free dims-stop y z (all-in a i .whole) (all-in a j .whole)) (all-imp (λ x e. bytes-at d (e .bytes)) a)
+    differ-false d ks (λ y z i j. complete-free dims-stop y z (all-in a i .whole) (all-in a j .whole))
+    (all-imp (λ x e. bytes-at d (e .bytes)) a)
 
 common-self : (s : List ℕ) → common s s ≡ s
 unfolding common
@@ -107,4 +110,5 @@ position-equal d x xs a = ap (λ (s : List ℕ). length s + 1) (go a)
   where
     go : {ys : List Key} → All (λ y. at d (y .strings) ≡ at d (x .strings)) ys → at d (narrow (x .strings) ys) ≡ at d (x .strings)
     go nil = refl
-    go (cons {x = y} {xs = ys} e r) = commons-at d (y .strings) (narrow (x .strings) ys) ∙ ap₂ common e (go r) ∙ common-self (at d (x .strings))
+    go (cons {x = y} {xs = ys} e r) =
+        commons-at d (y .strings) (narrow (x .strings) ys) ∙ ap₂ common e (go r) ∙ common-self (at d (x .strings))

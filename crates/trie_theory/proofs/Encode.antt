@@ -77,7 +77,14 @@ unfolding encode cost Regular
 length-encode n none h = refl
 length-encode n (leaf s ts more) h =
     let body = flat (map suffixBytes ts) in
-    omega (arith, length-append (nodeBytes 0 s body) (encode more), length-node 0 s body, h .0, length-suffixes n (h .1), length-encode n more (h .2))
+    omega (
+      arith,
+      length-append (nodeBytes 0 s body) (encode more),
+      length-node 0 s body,
+      h .0,
+      length-suffixes n (h .1),
+      length-encode n more (h .2),
+    )
 length-encode n (inner d s kids more) h =
     omega (
       arith,
@@ -117,7 +124,8 @@ suffix-parts : (n : ℕ) (t u : Key) (a b : List ℕ) → Wide n t × Twenty t �
     → suffixBytes t ++ a ≡ suffixBytes u ++ b → (t ≡ u) × (a ≡ b)
 unfolding suffixBytes
 suffix-parts n t u a b h g e =
-    let p = halves (map length (t .strings)) (map length (u .strings)) _ _ (equal-lengths (t .strings) (u .strings) (h .0 ∙ sym (g .0))) (simp append-assoc at e) in
+    let p = halves (map length (t .strings)) (map length (u .strings)) _ _
+    (equal-lengths (t .strings) (u .strings) (h .0 ∙ sym (g .0))) (simp append-assoc at e) in
     let q = halves (t .reference) (u .reference) (flat (t .strings) ++ a) (flat (u .strings) ++ b) (h .1 ∙ sym (g .1)) (p .1) in
     let r = strings-parts (t .strings) (u .strings) a b (p .0) (q .1) in
     (ap₂ (λ (s : Strings) (l : List ℕ). record { strings = s; reference = l }) (r .0) (q .0), r .1)
@@ -163,10 +171,12 @@ pub node-parts : (k k′ : ℕ) (s s′ : Strings) (b b′ m m′ : List ℕ) �
 unfolding nodeBytes
 node-parts k k′ s s′ b b′ m m′ l e =
     let i : k ≡ k′ = cc in
-    let rest : (map length s ++ (four (length b) ++ (flat s ++ b))) ++ m ≡ (map length s′ ++ (four (length b′) ++ (flat s′ ++ b′))) ++ m′ = cc in
+    let rest : (map length s ++ (four (length b) ++ (flat s ++ b))) ++ m
+    ≡ (map length s′ ++ (four (length b′) ++ (flat s′ ++ b′))) ++ m′ = cc in
     let p = halves (map length s) (map length s′) (four (length b) ++ (flat s ++ (b ++ m))) (four (length b′) ++ (flat s′ ++ (b′ ++ m′)))
     (equal-lengths s s′ l) (sym (regroup s b m) ∙ rest ∙ regroup s′ b′ m′) in
-    let q = halves (four (length b)) (four (length b′)) (flat s ++ (b ++ m)) (flat s′ ++ (b′ ++ m′)) (four-long (length b) ∙ sym (four-long (length b′))) (p .1) in
+    let q = halves (four (length b)) (four (length b′)) (flat s ++ (b ++ m)) (flat s′ ++ (b′ ++ m′))
+    (four-long (length b) ∙ sym (four-long (length b′))) (p .1) in
     let r = strings-parts s s′ (b ++ m) (b′ ++ m′) (p .0) (q .1) in
     let t = halves b b′ m m′ (four-parts (length b) (length b′) (q .0)) (r .1) in
     record { kind = i; strings = r .0; body = t .0; more = t .1 }
@@ -186,7 +196,8 @@ encode-injective n none (leaf s ts more) h w e = absurd (let z : _≡_ {A = ℕ}
 encode-injective n none (inner d s kids more) h w e = absurd (let z : _≡_ {A = ℕ} 0 1 = cc in omega arith)
 encode-injective n (leaf s ts more) none h w e = absurd (let z : _≡_ {A = ℕ} 0 1 = cc in omega arith)
 encode-injective n (leaf s ts more) (leaf s′ ts′ more′) h w e =
-    let p = node-parts 0 0 s s′ (flat (map suffixBytes ts)) (flat (map suffixBytes ts′)) (encode more) (encode more′) (h .0 ∙ sym (w .0)) e in
+    let p = node-parts 0 0 s s′ (flat (map suffixBytes ts)) (flat (map suffixBytes ts′)) (encode more) (encode more′)
+    (h .0 ∙ sym (w .0)) e in
     let q = suffixes-parts n (h .1) (w .1) (p .body) in
     let r = encode-injective n more more′ (h .2) (w .2) (p .more) in
     rw (p .strings, q, r) refl

@@ -34,7 +34,8 @@ module _ (d : ℕ) (p : Strings) (inside : d < length p) where
       let s = shared (x ∷ xs) in
       let h : Key → ℕ = λ y. total (strip p (y .strings)) in
       let e : sum h ((x ∷ xs) ++ flat ps) ≡ sum h (x ∷ xs) + sum h (flat ps) = sum-append h (x ∷ xs) (flat ps) in
-      let byte : 1 ≤ total (strip p s) = some-total d (strip p s) (first-some d (strip p s) (let q = part-first d c p inside u a in omega arith)) in
+      let byte : 1 ≤ total (strip p s) = some-total d (strip p s)
+      (first-some d (strip p s) (let q = part-first d c p inside u a in omega arith)) in
       let n : total (strip p s) + behind s (x ∷ xs) ≤ sum h (x ∷ xs) =
       sum-more (total (strip p s)) (λ y. total (strip s (y .strings))) h (omega arith)
       (all-imp (λ y f. omega (arith, total-strip-strip p s (y .strings) (part-from d c p inside u a) f)) (shared-all (x ∷ xs))) in

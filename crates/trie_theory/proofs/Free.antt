@@ -48,7 +48,9 @@ free-left d s x y h f l e =
     at-split d p (x .strings) (commons-right s (x .strings)) ∙ ap (λ (l : List ℕ). at d p ++ l) e ∙ append-nil (at d p) in
     l (append-empty (at d (strip p s)) rest
     (h d (at d (strip p s) ++ rest)
-    (at-split d s (y .strings) f ∙ ap (λ (l : List ℕ). l ++ rest) (at-split d p s (commons-left s (x .strings)) ∙ ap (λ (l : List ℕ). l ++ at d (strip p s)) (sym same))
+    (at-split d s (y .strings) f
+    ∙ ap (λ (l : List ℕ). l ++ rest)
+    (at-split d p s (commons-left s (x .strings)) ∙ ap (λ (l : List ℕ). l ++ at d (strip p s)) (sym same))
     ∙ append-assoc (at d (x .strings)) (at d (strip p s)) rest)))
 
 -- below strings with which x agrees, what remains of it is free of what is below, and the other way
@@ -90,7 +92,8 @@ left-differ (a ∷ s) (b ∷ k) p q e = go (eqb a b) refl (left-differ s k) p q 
         → first zero (drop (length (common s k)) s ∷ []) ≡ first zero (drop (length (common s k)) k ∷ []) → ⊥)
         → (drop (length (cond w (a ∷ common s k) [])) (a ∷ s) ≡ [] → ⊥)
         → (drop (length (cond w (a ∷ common s k) [])) (b ∷ k) ≡ [] → ⊥)
-        → first zero (drop (length (cond w (a ∷ common s k) [])) (a ∷ s) ∷ []) ≡ first zero (drop (length (cond w (a ∷ common s k) [])) (b ∷ k) ∷ [])
+        → first zero (drop (length (cond w (a ∷ common s k) [])) (a ∷ s) ∷ [])
+        ≡ first zero (drop (length (cond w (a ∷ common s k) [])) (b ∷ k) ∷ [])
         → ⊥
     go true t ih p′ q′ z = ih p′ q′ z
     go false t ih p′ q′ z = eqb-false a b t z
@@ -127,7 +130,8 @@ blank-join [] [] e h = refl
 blank-join [] (b ∷ bs) e h = absurd (omega arith)
 blank-join (a ∷ a′) [] e h = refl
 blank-join (a ∷ a′) (b ∷ bs) e h =
-    ap₂ _∷_ (ap (λ (l : List ℕ). a ++ l) (h 0 (omega arith)) ∙ append-nil a) (blank-join a′ bs (omega arith) (λ d l. h (suc d) (omega arith)))
+    ap₂ _∷_ (ap (λ (l : List ℕ). a ++ l) (h 0 (omega arith)) ∙ append-nil a)
+    (blank-join a′ bs (omega arith) (λ d l. h (suc d) (omega arith)))
 
 -- THE NEW PARENT'S DIMENSION: a node that does not agree with a key has bytes left there
 pub differing-starts : (above : Above) (s k : Strings) → length s ≡ length k → Starts above s → goesOn s k ≡ false
@@ -155,8 +159,10 @@ differing-starts above s k e f g = go (turn t (length l) above) refl
     go : (o : Option ℕ) → turn t (length l) above ≡ o → at (chosen o) l ≡ [] → ⊥
     go (some d) q z = let r = ltb-true 0 (length (at d l)) (turn-passes t (length l) above d q) in omega (arith, ap length z)
     go none q z =
-        let inside : wanted (length l) above < length l = wanted-inside (length l) above s (sym (length-strip (commons s k) s)) (omega (arith, some-strings s g, length-strip (commons s k) s)) f in
+        let inside : wanted (length l) above < length l = wanted-inside (length l) above s (sym (length-strip (commons s k) s))
+        (omega (arith, some-strings s g, length-strip (commons s k) s)) f in
         let agrees : commons s k ≡ s =
-        sym (blank-join (commons s k) l wide (λ d m. empty (at d l) (ltb-false 0 (length (at d l)) (turn-none t (length l) above inside q d m))))
+        sym (blank-join (commons s k) l wide (λ d m. empty (at d l)
+        (ltb-false 0 (length (at d l)) (turn-none t (length l) above inside q d m))))
         ∙ join-strip (commons s k) s (commons-left s k) in
         false≢true (sym g ∙ prefixes-goesOn s k (rw agrees at (commons-right s k)))

@@ -26,7 +26,8 @@ unders p (cons {x = x} h a) = ap₂ _∷_ (under-remains p x h) (unders p a)
 module _ (n τ : ℕ) (h : Key → ℕ) where
   -- the tries of parts have the keys of the parts, if each trie has
   each-sum : {d b : ℕ} {p : Strings} {ps : List (List Key)} (g : List Key → Forest → Forest)
-      → ((x : Key) (xs : List Key) (more : Forest) → All (From p) (x ∷ xs) → sum h (keys p (g (x ∷ xs) more)) ≡ sum h (x ∷ xs) + sum h (keys p more))
+      → ((x : Key) (xs : List Key) (more : Forest) → All (From p) (x ∷ xs)
+      → sum h (keys p (g (x ∷ xs) more)) ≡ sum h (x ∷ xs) + sum h (keys p more))
       → Parted d p (From p) b ps → sum h (keys p (each g ps)) ≡ sum h (flat ps)
   unfolding each flat keys sum
   each-sum g ih done = refl

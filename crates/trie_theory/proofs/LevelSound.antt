@@ -54,7 +54,8 @@ module _ (n τ : ℕ) where
       }
 
       before : ahead above p more ≡ true
-      before = all-test (λ t. ltb (branching above p) (branching above t)) (all-imp (λ t l. lt-ltb (branching above p) (branching above t) l) b)
+      before =
+          all-test (λ t. ltb (branching above p) (branching above t)) (all-imp (λ t l. lt-ltb (branching above p) (branching above t) l) b)
 
       go : (o : Option ℕ) → ((d : ℕ) → o ≡ some d → (2 ≤ length (tops (kids d))) × Well n (below d) (kids d))
           → Well n above (node k (x ∷ xs) o kids more)

@@ -54,13 +54,15 @@ module _ (x : Key) (k : Strings) (ks : List Key) (more : Forest) (above : Prefix
       ∙ ap (λ (m : ℕ). stepAt (shared ks) m 0 ∷ []) (length-map ks (remains (shared ks))))
 
   inner-enter : (d : ℕ) (kids : ℕ → Forest) → From (shared ks) x
-      → walk k (node k ks (some d) kids more) x ≡ stepAt (shared ks) (length (keys (shared ks) (kids d))) (suc d) ∷ walk (shared ks) (kids d) x
+      → walk k (node k ks (some d) kids more) x
+      ≡ stepAt (shared ks) (length (keys (shared ks) (kids d))) (suc d) ∷ walk (shared ks) (kids d) x
   unfolding node walk
   inner-enter d kids h = rw (join-strip k (shared ks) above) (on-true _ _ _ (prefixes-goesOn (shared ks) (x .strings) h))
 
 module _ (x : Key) (d : ℕ) (p : Strings) (g : List Key → Forest → Forest) (ks : List Key) (r : List Step) (i : In x ks)
     (own : (more : Forest) → walk p (g (keep d p (byte d p x) ks) more) x ≡ r)
-    (other : (c : ℕ) (y : Key) (ys : List Key) (more : Forest) → (byte d p x ≡ c → ⊥) → keep d p c ks ≡ y ∷ ys → walk p (g (y ∷ ys) more) x ≡ walk p more x) where
+    (other : (c : ℕ) (y : Key) (ys : List Key) (more : Forest) → (byte d p x ≡ c → ⊥) → keep d p c ks ≡ y ∷ ys
+    → walk p (g (y ∷ ys) more) x ≡ walk p more x) where
   enter : {xs : List Key} → In x xs → ((more : Forest) → walk p (g xs more) x ≡ r) → (ps : List (List Key))
       → walk p (each g (filled xs ps)) x ≡ r
   unfolding filled each
@@ -144,7 +146,8 @@ module _ (n τ : ℕ) (x : Key) where
       let h = all-head a in
       let own : All (λ z. From p z × (byte d p z ≡ c)) (y ∷ ys) = all-imp (λ z q. (q .0 .0, q .1)) a in
       let u : c < 256 = let l = h .0 .1 in let m = h .1 in omega arith in
-      grow-skip f (below d) p (y ∷ ys) more (shared-greatest p (all-imp (λ z q. q .0) own)) (part-skip d c p y ys (differ-in d i e) u ne own))
+      grow-skip f (below d) p (y ∷ ys) more (shared-greatest p (all-imp (λ z q. q .0) own))
+      (part-skip d c p y ys (differ-in d i e) u ne own))
       256 0 (omega arith) (all-in (differ-all d ks e) i)
 
   grow-walk : (f : ℕ) (above : Above) (k : Strings) (ks : List Key) (more : Forest) → All (From k) ks → In x ks

@@ -27,8 +27,14 @@ pub sameKey-true : (x y : Key) → sameKey x y ≡ true → x ≡ y
 unfolding sameKey
 sameKey-true x y e =
     ap₂ (λ (s : Strings) (r : List ℕ). record { strings = s; reference = r })
-    (strings-true (x .strings) (y .strings) (and-left (same (same eqb) (x .strings) (y .strings)) (same eqb (x .reference) (y .reference)) e))
-    (bytes-true (x .reference) (y .reference) (and-right (same (same eqb) (x .strings) (y .strings)) (same eqb (x .reference) (y .reference)) e))
+    (strings-true (x .strings) (y .strings) (and-left strings-same reference-same e))
+    (bytes-true (x .reference) (y .reference) (and-right strings-same reference-same e))
+  where
+    strings-same : Bool
+    strings-same = same (same eqb) (x .strings) (y .strings)
+
+    reference-same : Bool
+    reference-same = same eqb (x .reference) (y .reference)
 
 pub sameKey-refl : (x : Key) → sameKey x x ≡ true
 unfolding sameKey
@@ -40,7 +46,8 @@ sameKey-of x y e = ap (sameKey x) (sym e) ∙ sameKey-refl x
 -- x is among a list exactly if it stands there
 pub among-in : (x : Key) (ys : List Key) → (among x ys ≡ true) ↔ In x ys
 unfolding among
-among-in x ys = (λ e. let r = any-in (sameKey x) ys e in rw (sameKey-true x (r .0) (r .2)) (r .1), λ i. in-any (sameKey x) i (sameKey-refl x))
+among-in x ys =
+    (λ e. let r = any-in (sameKey x) ys e in rw (sameKey-true x (r .0) (r .2)) (r .1), λ i. in-any (sameKey x) i (sameKey-refl x))
 
 remains-under : (s : Strings) (y : Key) → length s ≡ length (y .strings) → remains s (under s y) ≡ y
 unfolding remains under
@@ -73,7 +80,8 @@ among-under s x nil = sym (and-false (goesOn s (x .strings)))
     and-false true = refl
     and-false false = refl
 among-under s x (cons {x = y} {xs = ys} h a) =
-    ap₂ _||_ (same-under s x y h) (among-under s x a) ∙ and-or (goesOn s (x .strings)) (sameKey (remains s x) y) (any (sameKey (remains s x)) ys)
+    ap₂ _||_ (same-under s x y h) (among-under s x a)
+    ∙ and-or (goesOn s (x .strings)) (sameKey (remains s x) y) (any (sameKey (remains s x)) ys)
   where
     and-or : (a b c : Bool) → (a && b) || (a && c) ≡ a && (b || c)
     and-or true b c = refl
@@ -117,8 +125,11 @@ member-among n above (leaf s ts more) x h =
     ∙ ap (λ (b : Bool). b || among x (keys [] more)) (sym (among-under s x (all-imp (λ y e. h .0 .wide ∙ sym e) (h .2))))
     ∙ sym (any-append (sameKey x) (map (under s) ts) (keys [] more))
 member-among n above (inner d s kids more) x h =
-    ap (λ (b : Bool). cond (meets above s (x .strings)) (goesOn s (x .strings) && b) (member above more x)) (member-among n (below d) kids (remains s x) (h .2))
-    ∙ here-or-later n above s x more (among (remains s x) (keys [] kids)) (among x (keys [] more)) (h .0) (member-among n above more x (h .3))
+    ap (λ (b : Bool). cond (meets above s (x .strings)) (goesOn s (x .strings) && b) (member above more x))
+    (member-among n (below d) kids (remains s x) (h .2))
+    ∙ here-or-later n above s x more (among (remains s x) (keys [] kids)) (among x (keys [] more)) (h .0)
+    (member-among n above more x (h .3))
     ∙ ap (λ (b : Bool). b || among x (keys [] more))
-    (sym (among-under s x (all-imp (λ y e. h .0 .wide ∙ sym e) (wide-keys n (below d) kids (h .2)))) ∙ ap (among x) (sym (keys-from s kids)))
+    (sym (among-under s x (all-imp (λ y e. h .0 .wide ∙ sym e) (wide-keys n (below d) kids (h .2))))
+    ∙ ap (among x) (sym (keys-from s kids)))
     ∙ sym (any-append (sameKey x) (keys s kids) (keys [] more))

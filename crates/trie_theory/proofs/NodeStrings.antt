@@ -38,7 +38,8 @@ module _ (Q : List ℕ → Type 0) (whole : Inherited Q) where
   -- the strings of a node from which a key goes on
   node-strings : (k s : Strings) → (x : Key) × All Q (x .strings) × From (join k s) x → All Q s
   node-strings k s (x, a, f) =
-      all-joined k s (all-joined (join k s) (strip (join k s) (x .strings)) (subst (All Q) (sym (join-strip (join k s) (x .strings) f)) a) .0) .1
+      all-joined k s (all-joined (join k s) (strip (join k s) (x .strings))
+      (subst (All Q) (sym (join-strip (join k s) (x .strings) f)) a) .0) .1
 
   -- EVERY STRING OF A SOUND TRIE
   pub strung : (n : ℕ) (above : Above) (k : Strings) (f : Forest) → Sound n above f → All (λ x. All Q (x .strings)) (keys k f)

@@ -214,7 +214,8 @@ parts-two d x xs e = go (parted (From p) d (shared-all ks)) (λ h. sum-parts h d
     go done s = let z = s (λ x. 1) in absurd (omega arith)
     go (part {x = y} {xs = ys} c l u a done) s =
         let h : Key → ℕ = λ z. other c (byte d p z) in
-        let none-left : sum h (y ∷ ys) ≡ 0 = sum-equal h (λ z. 0) (all-imp (λ z q. other-same c (byte d p z) (q .1)) a) ∙ sum-none (y ∷ ys) in
+        let none-left : sum h (y ∷ ys) ≡ 0 =
+        sum-equal h (λ z. 0) (all-imp (λ z q. other-same c (byte d p z) (q .1)) a) ∙ sum-none (y ∷ ys) in
         let zero-all : sum h ks ≡ 0 = sym (s h) ∙ sum-append h (y ∷ ys) [] ∙ omega arith in
         let same : All (λ z. h z ≡ 0) ks = sum-zero h ks zero-all in
         let more : first d (strip p p) ≡ c =

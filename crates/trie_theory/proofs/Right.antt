@@ -52,7 +52,8 @@ sound-right n m xs t s equal short named =
           ap (count p) (found-all reach matching sees root [] t) ∙ equal-picked (keys [] t) xs equal matching (λ x. cond (p x) 1 0);
       few = omega (arith, nodes-known n root [] t s);
       high = height-bound m n t s short-keys;
-      size = rw many at (bytes (length-encode n t (sound-regular n root [] t s named-keys)) (cost-bound (5 + n) (20 + n) n m t s short-keys));
+      size =
+          rw many at (bytes (length-encode n t (sound-regular n root [] t s named-keys)) (cost-bound (5 + n) (20 + n) n m t s short-keys));
     }
   where
     bytes : {c : ℕ} → length (encode t) ≡ c → c ≤ (5 + n + (5 + n) + (20 + n) + m) * length (keys [] t)
@@ -83,7 +84,9 @@ module _ (xs : List Key) (entries : All Entry xs) where
 
   pub small-entries : TrieOf 2 209 xs (smallTrie xs) × Ascending root (smallTrie xs) × Bare (smallTrie xs)
   unfolding dims
-  small-entries = small-right dims dims-stop 209 xs (all-imp (λ x e. e .whole) entries) (all-imp entry-total entries) (all-imp (λ x e. e .named) entries)
+  small-entries =
+      small-right dims dims-stop 209 xs (all-imp (λ x e. e .whole) entries) (all-imp entry-total entries)
+      (all-imp (λ x e. e .named) entries)
 
 -- in figures: at most 245 bytes for each, and 210 nodes one below the other
 pub figures : {xs : List Key} {t : Forest} → TrieOf 2 209 xs t → (length (encode t) ≤ 245 * length xs) × (height t ≤ 210)

@@ -42,7 +42,8 @@ later-above above s k f more e a m b = go (ltb (branching above s) (branching ab
     go : (w : Bool) → ltb (branching above s) (branching above k) ≡ w → w ≡ true
     go true q = refl
     go false q =
-        let l = strict (branching above k) (branching above s) (ltb-false (branching above s) (branching above k) q) (meets-false above s k m) in
+        let l = strict (branching above k) (branching above s) (ltb-false (branching above s) (branching above k) q)
+        (meets-false above s k m) in
         let rest = all-imp (past l) (all-tested (λ t. ltb (branching above s) (branching above t)) (tops more) a) in
         absurd (false≢true (sym b ∙ ap (all higher) e ∙ and-both (lt-ltb (branching above k) (branching above s) l) (all-test higher rest)))
 
@@ -56,7 +57,8 @@ ahead-added n above s f x h sx a l =
 
 -- a leaf or an inner node, of which only the strings and the siblings change
 module _ (node : Strings → Forest → Forest) (own : Fronts node)
-    (make : (above : Above) (s : Strings) (more : Forest) → ahead above s more ≡ true → Ascending above more → Ascending above (node s more)) where
+    (make : (above : Above) (s : Strings) (more : Forest) → ahead above s more ≡ true → Ascending above more
+    → Ascending above (node s more)) where
   two-ascending : (d : ℕ) (s : Strings) (x : Key) → (first d s ≡ first d (x .strings) → ⊥) → Ascending (below d) (two d node s x)
   unfolding two Ascending ahead branching alone tops
   two-ascending d s x apart = go (ltb (first d (x .strings)) (first d s)) refl

@@ -84,7 +84,8 @@ pub bare-added : (n : ℕ) (above : Above) (f : Forest) (x : Key) → Sound n ab
 unfolding added Bare alone Sound keys join remains
 bare-added n above none x h b held = alone-bare x none tt
 bare-added n above (leaf s ts more) x h b held =
-    placed-bare (λ s′ m. leaf s′ ts m) (λ s′ m r. (b .0, r)) above s x (leaf s (ts ++ (remains s x ∷ [])) more) more (added above more x) (b .1)
+    placed-bare (λ s′ m. leaf s′ ts m) (λ s′ m r. (b .0, r)) above s x (leaf s (ts ++ (remains s x ∷ [])) more) more
+    (added above more x) (b .1)
     (λ g.
     let none-left = leaf-ends s ts x (goesOn-prefixes s (x .strings) g) (h .1) (b .0) (all-left (map (under s) ts) (keys [] more) held) in
     (all-append (b .0) (cons {x = remains s x} none-left nil), b .1))
@@ -121,7 +122,8 @@ module _ (cs : List (List ℕ → Bool)) (stop : All Stops cs) where
       → Ascending root (added root t x)
   unfolding Starts
   small-ascending t x h q o =
-      ascending-added (length cs) root t x (h .sound) (complete-wide cs (x .strings) q) tt (all-imp (λ y p. complete-free stop x y q p) (h .whole)) o
+      ascending-added (length cs) root t x (h .sound) (complete-wide cs (x .strings) q) tt
+      (all-imp (λ y p. complete-free stop x y q p) (h .whole)) o
 
   small-grown : (t : Forest) {xs : List Key} → Small cs t → Ascending root t → All (λ x. complete cs (x .strings) ≡ true) xs
       → Small cs (grown t xs) × Ascending root (grown t xs)

@@ -96,6 +96,16 @@ module _ (h : Key → ℕ) where
   unfolding smallTrie keys sum
   small-sum xs = omega (arith, sum-grown none xs)
 
+-- the small trie of a sequence grows from that of the sequence before
+grown-last : (t : Forest) (xs : List Key) (x : Key) → grown t (xs ++ (x ∷ [])) ≡ added root (grown t xs) x
+unfolding grown
+grown-last t [] x = refl
+grown-last t (y ∷ ys) x = grown-last (added root t y) ys x
+
+pub small-last : (xs : List Key) (x : Key) → smallTrie (xs ++ (x ∷ [])) ≡ added root (smallTrie xs) x
+unfolding smallTrie
+small-last xs x = grown-last none xs x
+
 module _ (h u : ℕ) where
   cost-alone : (x : Key) (more : Forest) → cost h u (alone x more) ≡ h + u + total (x .strings) + cost h u more
   unfolding cost alone remains sum
@@ -139,11 +149,13 @@ module _ (h u : ℕ) where
   cost-added above none x = omega (arith, cost-alone x none)
   cost-added above (leaf s ts more) x =
       cost-placed (λ s′ m. leaf s′ ts m) (sum (λ t. u + total (t .strings)) ts) (λ s′ m. refl)
-      above s x (leaf s (ts ++ (remains s x ∷ [])) more) more (added above more x) (u + total (strip s (x .strings))) (growth h u above more x)
+      above s x (leaf s (ts ++ (remains s x ∷ [])) more) more (added above more x) (u + total (strip s (x .strings)))
+      (growth h u above more x)
       (omega (arith, sum-append (λ t. u + total (t .strings)) ts (remains s x ∷ [])))
       (cost-added above more x)
   cost-added above (inner d s kids more) x =
       cost-placed (λ s′ m. inner d s′ kids m) (cost h u kids) (λ s′ m. refl)
-      above s x (inner d s (added (below d) kids (remains s x)) more) more (added above more x) (growth h u (below d) kids (remains s x)) (growth h u above more x)
+      above s x (inner d s (added (below d) kids (remains s x)) more) more (added above more x)
+      (growth h u (below d) kids (remains s x)) (growth h u above more x)
       (omega (arith, cost-added (below d) kids (remains s x)))
       (cost-added above more x)

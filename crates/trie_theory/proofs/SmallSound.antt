@@ -57,7 +57,8 @@ tops-added Q n above (leaf s ts more) x h fx q (cons b a) =
     tops-placed Q above (λ s′ m. leaf s′ ts m) (λ s′ m. refl) s x (leaf s (ts ++ (remains s x ∷ [])) more) more (added above more x)
     (h .0 .starts) fx q b a (cons b a) (tops-added Q n above more x (h .3) fx q a)
 tops-added Q n above (inner d s kids more) x h fx q (cons b a) =
-    tops-placed Q above (λ s′ m. inner d s′ kids m) (λ s′ m. refl) s x (inner d s (added (below d) kids (remains s x)) more) more (added above more x)
+    tops-placed Q above (λ s′ m. inner d s′ kids m) (λ s′ m. refl) s x (inner d s (added (below d) kids (remains s x)) more) more
+    (added above more x)
     (h .0 .starts) fx q b a (cons b a) (tops-added Q n above more x (h .3) fx q a)
 
 -- no sibling goes
@@ -77,7 +78,8 @@ width-added above (leaf s ts more) x =
     width-placed above (λ s′ m. leaf s′ ts m) (λ s′ m. refl) s x (leaf s (ts ++ (remains s x ∷ [])) more) more (added above more x)
     (omega arith) (width-added above more x)
 width-added above (inner d s kids more) x =
-    width-placed above (λ s′ m. inner d s′ kids m) (λ s′ m. refl) s x (inner d s (added (below d) kids (remains s x)) more) more (added above more x)
+    width-placed above (λ s′ m. inner d s′ kids m) (λ s′ m. refl) s x (inner d s (added (below d) kids (remains s x)) more) more
+    (added above more x)
     (omega arith) (width-added above more x)
 
 -- what a key is below an inner node with which it agrees: free, and with the branching byte
@@ -145,7 +147,8 @@ module _ (n : ℕ) where
         (λ m g.
         let fs : Starts (below d) (strip p s) = differing-starts above s k e (h .starts) g in
         let fk : Starts (below d) (strip p k) = free-left d s x y free from fs in
-        let r = two-sound d (strip p s) (remains p x) (length-strip p s ∙ h .wide) (length-strip p k ∙ w) fs fk (lefts-differ d s k fs fk) in (
+        let r = two-sound d (strip p s) (remains p x) (length-strip p s ∙ h .wide) (length-strip p k ∙ w) fs fk
+        (lefts-differ d s k fs fk) in (
           record {
             wide = length-commons s k e ∙ w;
             starts = commons-starts above s k (h .starts) fx m;
@@ -171,7 +174,12 @@ module _ (n : ℕ) where
   sound-added above (leaf s ts more) x h w fx free =
       placed-sound (λ s′ m. leaf s′ ts m) (λ s′ m. refl) (λ above′ s′ m c r. (c, h .1, h .2, r))
       above s x (leaf s (ts ++ (remains s x ∷ [])) more) more (h .0) (h .3) w fx (some-key n above [] (leaf s ts more) h (omega arith) free)
-      (λ g. (h .0, omega (arith, length-append ts (remains s x ∷ []), h .1), all-append (h .2) (cons (length-strip s (x .strings) ∙ w) nil), h .3))
+      (λ g. (
+        h .0,
+        omega (arith, length-append ts (remains s x ∷ []), h .1),
+        all-append (h .2) (cons (length-strip s (x .strings) ∙ w) nil),
+        h .3,
+      ))
       (sound-added above more x (h .3) w fx (all-right (map (under s) ts) (keys [] more) free))
   sound-added above (inner d s kids more) x h w fx free =
       placed-sound (λ s′ m. inner d s′ kids m) (λ s′ m. refl) (λ above′ s′ m c r. (c, h .1, h .2, r))
@@ -180,7 +188,8 @@ module _ (n : ℕ) where
       (λ g. let f = below-free s kids x (goesOn-prefixes s (x .strings) g) (all-left (keys s kids) (keys [] more) free) in (
         h .0,
         omega (arith, h .1, width-added (below d) kids (remains s x)),
-        sound-added (below d) kids (remains s x) (h .2) (length-strip s (x .strings) ∙ w) (below-starts n d kids (remains s x) (h .2) (h .1) f) f,
+        sound-added (below d) kids (remains s x) (h .2) (length-strip s (x .strings) ∙ w)
+            (below-starts n d kids (remains s x) (h .2) (h .1) f) f,
         h .3,
       ))
       (sound-added above more x (h .3) w fx (all-right (keys s kids) (keys [] more) free))

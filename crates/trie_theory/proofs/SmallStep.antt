@@ -12,7 +12,8 @@ abbrev pub placed : Above → (Strings → Forest → Forest) → Strings → Ke
 placed above node s x agreed more later =
     outcome above s (node s more) (x .strings) agreed (split above node s x more) (alone x (node s more)) (node s later)
 
-pub placed-cases : (P : Forest → Type 0) (above : Above) (node : Strings → Forest → Forest) (s : Strings) (x : Key) (agreed more later : Forest)
+pub placed-cases : (P : Forest → Type 0) (above : Above) (node : Strings → Forest → Forest) (s : Strings) (x : Key)
+    → (agreed more later : Forest)
     → (meets above s (x .strings) ≡ true → goesOn s (x .strings) ≡ true → P agreed)
     → (meets above s (x .strings) ≡ true → goesOn s (x .strings) ≡ false → P (split above node s x more))
     → (meets above s (x .strings) ≡ false → ahead above (x .strings) (node s more) ≡ true → P (alone x (node s more)))

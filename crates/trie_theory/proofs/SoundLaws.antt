@@ -1,15 +1,15 @@
 -- What holds of every sound trie, a level's or a small one: it has keys, which go on from the strings of its nodes, and it
 -- has at most 2 N - 1 nodes, so many bytes, and so much height.
 use Prim.Native.Nat.{ℕ, suc, _+_, _*_, _≤_}
-use mathlib.Core.Path.{sym, _∙_}
+use mathlib.Core.Path.{_≡_, refl, sym, _∙_}
 use mathlib.Core.List.{List, [], _∷_, map}
 use native.Mathlib.Omega.{arith}
 use lib.ListN.{length, getD, length-append, length-map}
 use Rattle.trie_theory.specs.Forest.{Strings, Key, Forest, none, leaf, inner, join, under, keys, tops}
 use Rattle.trie_theory.specs.Lists.{All, nil, sum}
 use Rattle.trie_theory.specs.Strings.{strip, total}
-use Rattle.trie_theory.specs.Dimensions.{Above, root, below}
-use Rattle.trie_theory.specs.Sound.{Starts, Wide, Sound}
+use Rattle.trie_theory.specs.Dimensions.{Above, root, below, branching}
+use Rattle.trie_theory.specs.Sound.{Starts, Wide, Node, Sound}
 use Rattle.trie_theory.specs.Size.{cost, nodes, height}
 use Rattle.trie_theory.proofs.Lists.{all-append, all-left, all-right, all-map, all-head, all-every, all-imp}
 use Rattle.trie_theory.proofs.Sums.{sum-append, sum-map, sum-more, sum-most}
@@ -27,6 +27,13 @@ top-starts n above none h w = absurd (omega arith)
 top-starts n above (leaf s ts more) h w = h .0 .starts
 top-starts n above (inner d s kids more) h w = h .0 .starts
 
+-- a root has no siblings: a sound trie is one tree, or none
+pub root-alone : (n : ℕ) (s : Strings) (more : Forest) → Node n root s more → more ≡ none
+unfolding tops branching
+root-alone n s none h = refl
+root-alone n s (leaf t ts more) h = absurd (all-head (h .apart) refl)
+root-alone n s (inner d t kids more) h = absurd (all-head (h .apart) refl)
+
 -- A SOUND TRIE HAS A KEY, which goes on from the strings of its root
 pub some-key : {P : Key → Type 0} (n : ℕ) (above : Above) (k : Strings) (f : Forest)
     → Sound n above f → 1 ≤ length (tops f) → All P (keys k f) → (x : Key) × P x × From (join k (top f)) x
@@ -43,7 +50,13 @@ pub keys-many : (n : ℕ) (above : Above) (k : Strings) (f : Forest) → Sound n
 unfolding Sound tops keys
 keys-many n above k none h = omega arith
 keys-many n above k (leaf s ts more) h =
-    omega (arith, h .1, keys-many n above k more (h .3), length-append (map (under (join k s)) ts) (keys k more), length-map ts (under (join k s)))
+    omega (
+      arith,
+      h .1,
+      keys-many n above k more (h .3),
+      length-append (map (under (join k s)) ts) (keys k more),
+      length-map ts (under (join k s)),
+    )
 keys-many n above k (inner d s kids more) h =
     omega (
       arith,
@@ -58,10 +71,12 @@ pub wide-keys : (n : ℕ) (above : Above) (f : Forest) → Sound n above f → A
 unfolding Sound keys join under
 wide-keys n above none h = nil
 wide-keys n above (leaf s ts more) h =
-    all-append (all-map (under s) (λ y e. length-join s (y .strings) (h .0 .wide ∙ sym e) ∙ h .0 .wide) (h .2)) (wide-keys n above more (h .3))
+    all-append (all-map (under s) (λ y e. length-join s (y .strings) (h .0 .wide ∙ sym e) ∙ h .0 .wide) (h .2))
+    (wide-keys n above more (h .3))
 wide-keys n above (inner d s kids more) h =
     all-append {xs = keys s kids}
-    (rw (keys-from s kids) (all-map (under s) (λ y e. length-join s (y .strings) (h .0 .wide ∙ sym e) ∙ h .0 .wide) (wide-keys n (below d) kids (h .2))))
+    (rw (keys-from s kids) (all-map (under s) (λ y e. length-join s (y .strings) (h .0 .wide ∙ sym e) ∙ h .0 .wide)
+    (wide-keys n (below d) kids (h .2))))
     (wide-keys n above more (h .3))
 
 -- THE NODES of N keys are at most 2 N - 1
@@ -70,7 +85,13 @@ pub nodes-known : (n : ℕ) (above : Above) (k : Strings) (f : Forest) → Sound
 unfolding Sound tops keys nodes
 nodes-known n above k none h = omega arith
 nodes-known n above k (leaf s ts more) h =
-    omega (arith, h .1, nodes-known n above k more (h .3), length-append (map (under (join k s)) ts) (keys k more), length-map ts (under (join k s)))
+    omega (
+      arith,
+      h .1,
+      nodes-known n above k more (h .3),
+      length-append (map (under (join k s)) ts) (keys k more),
+      length-map ts (under (join k s)),
+    )
 nodes-known n above k (inner d s kids more) h =
     omega (
       arith,
@@ -113,7 +134,8 @@ height-known m n above k (inner d s kids more) h a e =
     let known = known-fits m n above k (inner d s kids more) h (omega arith) a in
     omega (
       arith,
-      height-known m n (below d) (join k s) kids (h .2) (all-left (keys (join k s) kids) (keys k more) a) (omega (arith, known, total-join k s)),
+      height-known m n (below d) (join k s) kids (h .2) (all-left (keys (join k s) kids) (keys k more) a)
+          (omega (arith, known, total-join k s)),
       total-join k s,
       starts-byte above s (h .0 .starts),
       height-known m n above k more (h .3) (all-right (keys (join k s) kids) (keys k more) a) e,
@@ -149,7 +171,8 @@ module _ (h u n : ℕ) where
         sum-more (h + h + total s) (λ t. u + total (t .strings)) (λ t. share h u k (under (join k s) t)) (w .1)
             (all-every ts (λ t. omega (
               arith,
-              total-strip k (join (join k s) (t .strings)) (prefixes-trans k (join k s) (join (join k s) (t .strings)) (prefixes-join k s) (prefixes-join (join k s) (t .strings))),
+              total-strip k (join (join k s) (t .strings)) (prefixes-trans k (join k s) (join (join k s) (t .strings))
+                  (prefixes-join k s) (prefixes-join (join k s) (t .strings))),
               total-join k s,
               total-join (join k s) (t .strings),
             ))),

@@ -63,6 +63,7 @@ module _ (B : ℕ) (x : Key) (short : All (λ l. length l ≤ B) (x .strings)) w
     where
       go : (w : Bool) → goesOn (join k s) (x .strings) ≡ w → All (AtMost (suc B)) (walk (join k s) kids x)
           → All (AtMost (suc B)) (walk k more x)
-          → All (AtMost (suc B)) (cond w (stepAt (join k s) (length (keys (join k s) kids)) (suc d) ∷ walk (join k s) kids x) (walk k more x))
+          → All (AtMost (suc B))
+          (cond w (stepAt (join k s) (length (keys (join k s) kids)) (suc d) ∷ walk (join k s) kids x) (walk k more x))
       go true e q r = cons (step-most (join k s) (length (keys (join k s) kids)) (suc d) e) q
       go false e q r = r
