@@ -93,7 +93,7 @@ module _ (n τ : ℕ) where
   -- THE STEP: a set is one node; its children are the tries of its parts, the next dimension wanted
   pub trie-step : (above : Above) (k : Strings) (ks : List Key) (more : Forest)
       → trie n τ above k ks more ≡ node k ks (choice n τ above ks) (λ d. each (trie n τ (below d) (shared ks)) (parts d ks)) more
-  unfolding trie grow
+  unfolding trie grow node
   trie-step above k [] more = rw (choice-empty n τ above)
   trie-step above k (x ∷ xs) more =
       let ks : List Key = x ∷ xs in

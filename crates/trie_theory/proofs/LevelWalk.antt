@@ -164,7 +164,7 @@ module _ (n τ : ℕ) (x : Key) where
           → walk p (grow n τ f (below d) p (part-of x d ks) more) x ≡ sequence n τ f (below d) (part-of x d ks) x)
           → walk k (node k ks o (children n τ f ks) more) x
           ≡ stepAt p (length ks) (kindOf o) ∷ follow o (λ d. sequence n τ f (below d) (part-of x d ks) x)
-      go none q ih = leaf-enter x k ks more (shared-in k i a) (λ d. Forest.none) (all-in (shared-all ks) i)
+      go none q ih = leaf-enter x k ks more (shared-in k i a) (children n τ f ks) (all-in (shared-all ks) i)
       go (some d) q ih =
           inner-enter x k ks more (shared-in k i a) d (children n τ f ks) (all-in (shared-all ks) i)
           ∙ ap₂ (λ (m : ℕ) (l : List Step). stepAt p m (suc d) ∷ l)

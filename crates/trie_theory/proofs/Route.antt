@@ -81,7 +81,7 @@ module _ (n τ : ℕ) (x : Key) where
       → route n τ above ks x
       ≡ stepAt (shared ks) (length ks) (kindOf (choice n τ above ks))
       ∷ follow (choice n τ above ks) (λ d. route n τ (below d) (keep d (shared ks) (byte d (shared ks) x) ks) x)
-  unfolding route sequence
+  unfolding route sequence kindOf follow
   route-step above [] = rw (choice-empty n τ above)
   route-step above (y ∷ ys) =
       let ks : List Key = y ∷ ys in

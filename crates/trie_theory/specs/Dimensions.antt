@@ -18,24 +18,20 @@ next n d = cond (eqb (suc d) n) 0 (suc d)
 
 -- the wanted dimension: at the root the first, below a node the one after the one it uses
 unfoldable pub wanted : ℕ → Above → ℕ
-unfolding next
 wanted n root = 0
 wanted n (below d) = next n d
 
 -- the first of f dimensions, from d on, round about, that passes the test
 unfoldable pub seek : (ℕ → Bool) → ℕ → ℕ → ℕ → Option ℕ
-unfolding next
 seek t n zero d = none
 seek t n (suc f) d = cond (t d) (some d) (seek t n f (next n d))
 
 -- the first of all n dimensions, from the wanted one on
 unfoldable pub turn : (ℕ → Bool) → ℕ → Above → Option ℕ
-unfolding seek wanted
 turn t n above = seek t n n (wanted n above)
 
 -- the branching byte of strings: their first in the dimension of the node above; a root has none
 unfoldable pub branching : Above → Strings → ℕ
-unfolding first
 branching root s = 256
 branching (below d) s = first d s
 
@@ -45,5 +41,5 @@ pub two-dimensions : (t : ℕ → Bool) →
     (turn t 2 root ≡ cond (t 0) (some 0) (cond (t 1) (some 1) none))
     × (turn t 2 (below 0) ≡ cond (t 1) (some 1) (cond (t 0) (some 0) none))
     × (turn t 2 (below 1) ≡ cond (t 0) (some 0) (cond (t 1) (some 1) none))
-unfolding turn
+unfolding turn seek wanted next
 two-dimensions t = (refl, refl, refl)

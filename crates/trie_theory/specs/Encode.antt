@@ -10,7 +10,6 @@ use Rattle.trie_theory.specs.Forest.{Strings, Key, Forest, none, leaf, i
 use Rattle.trie_theory.specs.Lists.{flat}
 
 unfoldable pub suffixBytes : Key → List ℕ
-unfolding flat
 suffixBytes t = map length (t .strings) ++ (t .reference ++ flat (t .strings))
 
 -- a number in four bytes, highest first; the top digit is not reduced, so that the digits give every number back
@@ -19,11 +18,9 @@ four n = n / 16777216 ∷ n / 65536 % 256 ∷ n / 256 % 256 ∷ n % 256 ∷ []
 
 -- a node of a kind with the strings s and a body
 unfoldable pub nodeBytes : ℕ → Strings → List ℕ → List ℕ
-unfolding flat four
 nodeBytes kind s body = kind ∷ (map length s ++ (four (length body) ++ (flat s ++ body)))
 
 unfoldable pub encode : Forest → List ℕ
-unfolding suffixBytes nodeBytes flat
 encode none = []
 encode (leaf s ts more) = nodeBytes 0 s (flat (map suffixBytes ts)) ++ encode more
 encode (inner d s kids more) = nodeBytes (suc d) s (encode kids) ++ encode more

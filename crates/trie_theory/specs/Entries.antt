@@ -35,7 +35,6 @@ isPath (suc a ∷ s) = isPath s
 
 -- the two dimensions
 unfoldable pub dims : List (List ℕ → Bool)
-unfolding isValue isPath
 dims = isValue ∷ isPath ∷ []
 
 -- the key of an entry: a value, a path of at most 201 bytes with its end byte, and a reference of 20

@@ -26,12 +26,10 @@ join (k ∷ ks) (s ∷ ss) = (k ++ s) ∷ join ks ss
 
 -- the key that remains as t behind the bytes k
 unfoldable pub under : Strings → Key → Key
-unfolding join
 under k t = record { strings = join k (t .strings); reference = t .reference }
 
 -- the keys of tries, where the bytes k are known above them
 unfoldable pub keys : Strings → Forest → List Key
-unfolding under join
 keys k none = []
 keys k (leaf s ts more) = map (under (join k s)) ts ++ keys k more
 keys k (inner d s kids more) = keys (join k s) kids ++ keys k more

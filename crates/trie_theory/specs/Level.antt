@@ -22,13 +22,11 @@ use Rattle.trie_theory.specs.Parts.{parts}
 -- The dimension in which keys are partitioned: where there are more than τ, the first from the wanted one on, round
 -- about, in which they differ. None for a leaf
 unfoldable pub choice : ℕ → ℕ → Above → List Key → Option ℕ
-unfolding turn differ
 choice n τ above ks = cond (ltb τ (length ks)) (turn (λ d. differ d ks) n above) none
 
 -- The node of keys, k known at its parent, before its siblings: it has the bytes from its parent's positions up to its
 -- own; a leaf keeps what remains of each key
 unfoldable pub node : Strings → List Key → Option ℕ → (ℕ → Forest) → Forest → Forest
-unfolding shared strip remains
 node k ks none kids more = leaf (strip k (shared ks)) (map (remains (shared ks)) ks) more
 node k ks (some d) kids more = inner d (strip k (shared ks)) (kids d) more
 
@@ -39,18 +37,15 @@ each g (p ∷ ps) = g p (each g ps)
 
 -- the trie of keys, at most f partitions deep: a part is partitioned again, the next dimension wanted
 unfoldable pub grow : ℕ → ℕ → ℕ → Above → Strings → List Key → Forest → Forest
-unfolding choice node each parts shared
 grow n τ zero above k ks more = node k ks none (λ d. Forest.none) more
 grow n τ (suc f) above k ks more =
     node k ks (choice n τ above ks) (λ d. each (grow n τ f (below d) (shared ks)) (parts d ks)) more
 
 -- the same to its end: each part has fewer keys, so as many partitions as keys are enough (law `trie-step`)
 unfoldable pub trie : ℕ → ℕ → Above → Strings → List Key → Forest → Forest
-unfolding grow
 trie n τ above k ks more = grow n τ (length ks) above k ks more
 
 -- the level of keys of n dimensions; no keys, no trie
 unfoldable pub levelOf : ℕ → ℕ → List Key → Forest
-unfolding trie
 levelOf n τ [] = Forest.none
 levelOf n τ (x ∷ xs) = trie n τ root [] (x ∷ xs) Forest.none

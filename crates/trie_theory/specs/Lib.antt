@@ -12,6 +12,7 @@ pub mod Walk
 pub mod Sound
 pub mod Encode
 pub mod Size
+pub mod Computing
 pub mod Worked
 pub mod WorkedSmall
 pub mod Entries

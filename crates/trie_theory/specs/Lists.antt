@@ -25,7 +25,6 @@ sum h (x ∷ xs) = h x + sum h xs
 
 -- how many pass the test
 unfoldable pub count : {A : Type 0} → (A → Bool) → List A → ℕ
-unfolding sum
 count t xs = sum (λ x. cond (t x) 1 0) xs
 
 -- lists one after the other

@@ -10,18 +10,15 @@ use Rattle.trie_theory.specs.SmallTrie.{meets}
 
 -- equal in all strings and the reference
 unfoldable pub sameKey : Key → Key → Bool
-unfolding same
 sameKey x y = same (same eqb) (x .strings) (y .strings) && same eqb (x .reference) (y .reference)
 
 -- x is one of the list
 unfoldable pub among : Key → List Key → Bool
-unfolding any sameKey
 among x ys = any (sameKey x) ys
 
 -- x stands in the tries: its branching byte leads to a node, it agrees with the node's strings, and what remains of it
 -- is one of the leaf's suffixes or stands in the children
 unfoldable pub member : Above → Forest → Key → Bool
-unfolding meets goesOn remains among
 member above none x = false
 member above (leaf s ts more) x =
     cond (meets above s (x .strings)) (goesOn s (x .strings) && among (remains s x) ts) (member above more x)

@@ -8,7 +8,6 @@ use Rattle.trie_theory.specs.Position.{shared, byte}
 
 -- the keys with byte b behind the bytes p in dimension d, in their sequence
 unfoldable pub keep : ℕ → Strings → ℕ → List Key → List Key
-unfolding pick byte
 keep d p b ks = pick (λ x. eqb (byte d p x) b) ks
 
 -- a part, unless it is empty, before others
@@ -18,11 +17,9 @@ filled (x ∷ xs) ps = (x ∷ xs) ∷ ps
 
 -- the parts of f bytes, ascending from byte b
 unfoldable pub partsFrom : ℕ → Strings → ℕ → ℕ → List Key → List (List Key)
-unfolding keep filled
 partsFrom d p zero b ks = []
 partsFrom d p (suc f) b ks = filled (keep d p b ks) (partsFrom d p f (suc b) ks)
 
 -- the parts of all 256 bytes
 unfoldable pub parts : ℕ → List Key → List (List Key)
-unfolding shared partsFrom
 parts d ks = partsFrom d (shared ks) 256 0 ks

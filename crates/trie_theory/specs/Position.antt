@@ -10,28 +10,23 @@ use Rattle.trie_theory.specs.Strings.{commons, strip, at, first}
 
 -- the bytes with which the strings s and all the keys begin alike
 unfoldable pub narrow : Strings → List Key → Strings
-unfolding commons
 narrow s [] = s
 narrow s (x ∷ xs) = commons (x .strings) (narrow s xs)
 
 -- the longest common prefix of keys, in each dimension
 unfoldable pub shared : List Key → Strings
-unfolding narrow
 shared [] = []
 shared (x ∷ xs) = narrow (x .strings) xs
 
 -- the first position at which two of the keys differ in dimension d, counted from 1; one past the end where all are equal
 unfoldable pub position : ℕ → List Key → ℕ
-unfolding shared
 position d ks = length (at d (shared ks)) + 1
 
 -- the byte of x in dimension d behind the bytes p; 256 where there is none
 unfoldable pub byte : ℕ → Strings → Key → ℕ
-unfolding first strip
 byte d p x = first d (strip p (x .strings))
 
 -- The keys differ in dimension d: each has a byte at the discriminative position. For strings of which none begins
 -- another, as values and ended paths are, this says that they are not all equal (proofs/Differ.antt)
 unfoldable pub differ : ℕ → List Key → Bool
-unfolding shared byte
 differ d ks = let p = shared ks in all (λ x. ltb (byte d p x) 256) ks

@@ -18,13 +18,11 @@ branch (suc d) (k ∷ ks) (s ∷ ss) = k ∷ branch d ks ss
 module _ (reach : Strings → Bool) where
   -- a root is entered; a child exactly when the bytes k known at its parent, with the branching byte added, can be continued
   unfoldable pub enters : Above → Strings → Strings → Bool
-  unfolding branch
   enters root k s = true
   enters (below d) k s = reach (branch d k s)
 
   -- the number of nodes entered, k known above the tries
   unfoldable pub nodesEntered : Above → Strings → Forest → ℕ
-  unfolding enters join
   nodesEntered above k none = 0
   nodesEntered above k (leaf s ts more) = cond (enters above k s) 1 0 + nodesEntered above k more
   nodesEntered above k (inner d s kids more) =
@@ -32,7 +30,6 @@ module _ (reach : Strings → Bool) where
 
   -- the keys found: those of the leaves entered that match
   unfoldable pub found : (Key → Bool) → Above → Strings → Forest → List Key
-  unfolding enters join under pick
   found matching above k none = []
   found matching above k (leaf s ts more) =
       cond (enters above k s) (pick matching (map (under (join k s)) ts)) [] ++ found matching above k more

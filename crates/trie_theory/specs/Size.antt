@@ -8,7 +8,6 @@ use Rattle.trie_theory.specs.SmallTrie.{outcome}
 
 -- The bytes, where a node costs h beside its strings and a suffix u: in n dimensions h is 5 + n and u 20 + n
 unfoldable pub cost : ℕ → ℕ → Forest → ℕ
-unfolding total sum
 cost h u none = 0
 cost h u (leaf s ts more) = h + total s + sum (λ t. u + total (t .strings)) ts + cost h u more
 cost h u (inner d s kids more) = h + total s + cost h u kids + cost h u more
@@ -28,7 +27,6 @@ height (inner d s kids more) = max (suc (height kids)) (height more)
 -- The bytes by which the addition of x makes tries longer: a suffix, or a leaf and a new parent, or a leaf, each with what
 -- remains of the key there
 unfoldable pub growth : ℕ → ℕ → Above → Forest → Key → ℕ
-unfolding outcome total strip commons remains
 growth h u above none x = h + u + total (x .strings)
 growth h u above (leaf s ts more) x =
     outcome above s (leaf s ts more) (x .strings)

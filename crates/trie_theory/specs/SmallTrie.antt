@@ -25,22 +25,18 @@ use Rattle.trie_theory.specs.Dimensions.{Above, root, below, turn, branc
 
 -- a key with the strings k belongs to a node with the strings s: it has the node's branching byte (at the root always)
 unfoldable pub meets : Above → Strings → Strings → Bool
-unfolding branching
 meets above s k = eqb (branching above s) (branching above k)
 
 -- the branching byte of s is below those of all tries side by side
 unfoldable pub ahead : Above → Strings → Forest → Bool
-unfolding branching tops
 ahead above s f = all (λ t. ltb (branching above s) (branching above t)) (tops f)
 
 -- a leaf with all bytes of the key: nothing remains for its suffix but the reference
 unfoldable pub alone : Key → Forest → Forest
-unfolding remains
 alone x more = leaf (x .strings) (remains (x .strings) x ∷ []) more
 
 -- the two children of a new parent that branches in d, ascending: the old node, with s left, and a new leaf for x
 unfoldable pub two : ℕ → (Strings → Forest → Forest) → Strings → Key → Forest
-unfolding alone first
 two d node s x = cond (ltb (first d (x .strings)) (first d s)) (alone x (node s none)) (node s (alone x none))
 
 -- what was sought; there is always one where it is asked for
@@ -50,13 +46,11 @@ chosen (some d) = d
 
 -- the dimension of a new parent over a node with s left: the first, from the wanted one on, in which it differs
 unfoldable pub differing : Above → Strings → ℕ
-unfolding chosen turn
 differing above s = chosen (turn (λ d. ltb 0 (length (at d s))) (length s) above)
 
 -- A node with the strings s that differ from those of x: a new parent takes the bytes before the first difference in each
 -- dimension, or all where none differs; the old node and a new leaf keep the rest
 unfoldable pub split : Above → (Strings → Forest → Forest) → Strings → Key → Forest → Forest
-unfolding commons strip remains differing two
 split above node s x more =
     let p = commons s (x .strings) in
     let d = differing above (strip p s) in
@@ -65,14 +59,12 @@ split above node s x more =
 -- The outcomes for a key with the strings k at a node with the strings s, the first of the tries f: it has the node's byte
 -- and agrees with all its strings, or differs; or its byte is below those of all tries of f; or none of these
 unfoldable pub outcome : {A : Type 0} → Above → Strings → Forest → Strings → A → A → A → A → A
-unfolding meets goesOn ahead
 outcome above s f k agrees differs before later =
     cond (meets above s k) (cond (goesOn s k) agrees differs) (cond (ahead above k f) before later)
 
 -- Tries with the key x added. Where all agrees a leaf takes the reference, last, and an inner node passes on what remains
 -- of the key; a node that differs is split; where no child has the byte, a leaf is added
 unfoldable pub added : Above → Forest → Key → Forest
-unfolding alone outcome remains split
 added above none x = alone x none
 added above (leaf s ts more) x =
     outcome above s (leaf s ts more) (x .strings)
@@ -89,10 +81,8 @@ added above (inner d s kids more) x =
 
 -- keys added in their sequence
 unfoldable pub grown : Forest → List Key → Forest
-unfolding added
 grown t [] = t
 grown t (x ∷ xs) = grown (added root t x) xs
 
 unfoldable pub smallTrie : List Key → Forest
-unfolding grown
 smallTrie xs = grown none xs

@@ -28,7 +28,6 @@ pub record Node (n : ℕ) (above : Above) (s : Strings) (more : Forest) : Type 0
 
 -- every node is such a node, every leaf has a suffix, every inner node two or more children
 unfoldable pub Sound : ℕ → Above → Forest → Type 0
-unfolding tops
 Sound n above none = Unit {0}
 Sound n above (leaf s ts more) = Node n above s more × (1 ≤ length ts) × All (Wide n) ts × Sound n above more
 Sound n above (inner d s kids more) =
@@ -36,14 +35,12 @@ Sound n above (inner d s kids more) =
 
 -- siblings stand ascending by their branching bytes
 unfoldable pub Ascending : Above → Forest → Type 0
-unfolding ahead
 Ascending above none = Unit {0}
 Ascending above (leaf s ts more) = (ahead above s more ≡ true) × Ascending above more
 Ascending above (inner d s kids more) = (ahead above s more ≡ true) × Ascending (below d) kids × Ascending above more
 
 -- a suffix has no byte: one path and value for each leaf, with all their references
 unfoldable pub Bare : Forest → Type 0
-unfolding total
 Bare none = Unit {0}
 Bare (leaf s ts more) = All (λ t. total (t .strings) ≡ 0) ts × Bare more
 Bare (inner d s kids more) = Bare kids × Bare more

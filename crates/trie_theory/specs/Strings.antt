@@ -14,7 +14,6 @@ begins (a ∷ p) (b ∷ s) = eqb a b && begins p s
 
 -- the strings s begin, in each dimension, with those of p
 unfoldable pub goesOn : Strings → Strings → Bool
-unfolding begins
 goesOn [] ss = true
 goesOn (p ∷ ps) [] = false
 goesOn (p ∷ ps) (s ∷ ss) = begins p s && goesOn ps ss
@@ -27,7 +26,6 @@ common (a ∷ s) (b ∷ t) = cond (eqb a b) (a ∷ common s t) []
 
 -- the same in each dimension
 unfoldable pub commons : Strings → Strings → Strings
-unfolding common
 commons [] ts = []
 commons (s ∷ ss) [] = []
 commons (s ∷ ss) (t ∷ ts) = common s t ∷ commons ss ts
@@ -40,7 +38,6 @@ strip (p ∷ ps) (s ∷ ss) = drop (length p) s ∷ strip ps ss
 
 -- what remains of a key behind the bytes p
 unfoldable pub remains : Strings → Key → Key
-unfolding strip
 remains p x = record { strings = strip p (x .strings); reference = x .reference }
 
 -- the string of dimension d

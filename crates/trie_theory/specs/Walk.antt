@@ -25,7 +25,6 @@ stepAt k amount kind = record { amount = amount; kind = kind; positions = map (�
 
 -- the nodes of x in tries, k known above them: the first trie with whose bytes x goes on, and so on below it
 unfoldable pub walk : Strings → Forest → Key → List Step
-unfolding join goesOn stepAt keys
 walk k none x = []
 walk k (leaf s ts more) x =
     cond (goesOn (join k s) (x .strings)) (stepAt (join k s) (length ts) 0 ∷ []) (walk k more x)
@@ -46,7 +45,6 @@ follow (some d) g = g d
 
 -- The partitioning sequence of key x: its set, then the part of it that has x, and so on to a leaf; at most f parts deep
 unfoldable pub sequence : ℕ → ℕ → ℕ → Above → List Key → Key → List Step
-unfolding stepAt kindOf follow choice keep byte shared
 sequence n τ zero above ks x = stepAt (shared ks) (length ks) 0 ∷ []
 sequence n τ (suc f) above ks x =
     stepAt (shared ks) (length ks) (kindOf (choice n τ above ks))
@@ -54,5 +52,4 @@ sequence n τ (suc f) above ks x =
 
 -- the same to its end (law `route-step`)
 unfoldable pub route : ℕ → ℕ → Above → List Key → Key → List Step
-unfolding sequence
 route n τ above ks x = sequence n τ (length ks) above ks x

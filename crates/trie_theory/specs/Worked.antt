@@ -10,6 +10,7 @@ use Rattle.trie_theory.specs.Position.{position}
 use Rattle.trie_theory.specs.Parts.{parts}
 use Rattle.trie_theory.specs.Level.{levelOf}
 use Rattle.trie_theory.specs.Walk.{Step, walk}
+use Rattle.trie_theory.specs.Computing.{of-a-level}
 
 -- the bytes of a text
 abbrev pub text : String → List ℕ
@@ -122,12 +123,12 @@ table =
 
 -- EVERY LINE IS AS PRINTED
 pub table-holds : map (λ (l : Line). l .computed) table ≡ map (λ (l : Line). l .printed) table
-unfolding position levelOf walk
+unfolding of-a-level
 table-holds = refl
 
 -- the positions of the nodes of key 9, value and path, are those of Table 3
 pub way-positions : map (λ (t : Step). t .positions) way ≡ (5 ∷ 2 ∷ []) ∷ (7 ∷ 10 ∷ []) ∷ (7 ∷ 14 ∷ []) ∷ (9 ∷ 18 ∷ []) ∷ []
-unfolding levelOf walk
+unfolding of-a-level
 way-positions = refl
 
 -- Table 5, as a trie. Below (00 00 00 00, /), partitioned by V, are
@@ -159,13 +160,13 @@ years =
     none))
 
 pub table5 : levelOf 2 2 rows ≡ inner 0 (pair (0 ∷ 0 ∷ 0 ∷ 0 ∷ []) (text "/")) years none
-unfolding levelOf
+unfolding of-a-level
 table5 = refl
 
 -- a partition has parts for the first and the last of all bytes, ascending
 pub all-bytes : parts 0 (entry (255 ∷ []) [] r1 ∷ entry (0 ∷ []) [] r2 ∷ entry (255 ∷ []) [] r3 ∷ [])
     ≡ (entry (0 ∷ []) [] r2 ∷ []) ∷ (entry (255 ∷ []) [] r1 ∷ entry (255 ∷ []) [] r3 ∷ []) ∷ []
-unfolding parts
+unfolding of-a-level
 all-bytes = refl
 
 -- the level drawn in Level.antt
@@ -183,5 +184,5 @@ pub drawn :
     (inner 1 (pair (7 ∷ []) (text "north/")) (single "edge" r1 (single "pond" r2 none))
     (inner 1 (pair (9 ∷ []) (text "south/")) (single "edge" r3 (single "lake" r4 none))
     none)) none
-unfolding levelOf
+unfolding of-a-level
 drawn = refl

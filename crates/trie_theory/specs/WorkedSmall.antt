@@ -12,6 +12,7 @@ use Rattle.trie_theory.specs.Lists.{any, same}
 use Rattle.trie_theory.specs.Strings.{begins, at}
 use Rattle.trie_theory.specs.Lookup.{sameKey, member}
 use Rattle.trie_theory.specs.Search.{found, nodesEntered}
+use Rattle.trie_theory.specs.Computing.{of-a-small-trie, of-a-search}
 use Rattle.trie_theory.specs.Worked.{text, ended, value, reference, pair, entry, nine, r1, r2, r3, r4, r5, r6, r7}
 
 -- six zero bytes, a value's first
@@ -41,14 +42,14 @@ south = key 0 9 "/south/edge" 2
 
 -- one leaf takes the whole key
 pub one-leaf : smallTrie (pond ∷ []) ≡ one (six ++ (0 ∷ 7 ∷ [])) (ended "/north/pond") 1 none
-unfolding smallTrie
+unfolding of-a-small-trie
 one-leaf = refl
 
 -- only the paths differ: the parent branches there and takes the whole value
 pub path-differs :
     smallTrie (pond ∷ edge ∷ [])
     ≡ inner 1 (pair (six ++ (0 ∷ 7 ∷ [])) (text "/north/")) (one [] (ended "edge") 1 (one [] (ended "pond") 1 none)) none
-unfolding smallTrie
+unfolding of-a-small-trie
 path-differs = refl
 
 -- both differ at the root: it branches in V
@@ -58,7 +59,7 @@ pub both-at-root :
     (inner 1 (pair (7 ∷ []) (text "north/")) (one [] (ended "edge") 1 (one [] (ended "pond") 1 none))
     (one (9 ∷ []) (ended "south/edge") 2
     none)) none
-unfolding smallTrie
+unfolding of-a-small-trie
 both-at-root = refl
 
 -- the same path and value with another reference: the leaf takes it last
@@ -68,7 +69,7 @@ pub one-more-reference :
     (one [] (ended "edge") 1
     (leaf (pair [] (ended "pond")) (entry [] [] (reference 1 0 0 0 0) ∷ entry [] [] (reference 9 0 0 0 0) ∷ [])
     none)) none
-unfolding smallTrie
+unfolding of-a-small-trie
 one-more-reference = refl
 
 -- both differ below a node that branches in V: the new parent branches in the path
@@ -78,7 +79,7 @@ pub both-below-value :
     (inner 1 (pair (1 ∷ []) []) (one (1 ∷ []) (ended "a") 1 (one (2 ∷ []) (ended "c") 3 none))
     (one (2 ∷ 1 ∷ []) (ended "b") 2
     none)) none
-unfolding smallTrie
+unfolding of-a-small-trie
 both-below-value = refl
 
 -- the root is split in the path alone: its old node keeps no byte of the value
@@ -90,7 +91,7 @@ old-node more = inner 0 (pair [] (text "a/")) (one (1 ∷ 1 ∷ []) (ended "x") 
 
 pub old-keeps-nothing :
     smallTrie path-split ≡ inner 1 (pair six (text "/")) (old-node (one (1 ∷ 1 ∷ []) (ended "b/z") 3 none)) none
-unfolding smallTrie
+unfolding of-a-small-trie
 old-keeps-nothing = refl
 
 -- both differ below a node that branches in the path: the new parent branches in V
@@ -100,7 +101,7 @@ pub both-below-path :
     (old-node
     (inner 0 (pair (1 ∷ []) (text "b/")) (one (1 ∷ []) (ended "z") 3 (one (2 ∷ []) (ended "w") 4 none))
     none)) none
-unfolding smallTrie
+unfolding of-a-small-trie
 both-below-path = refl
 
 -- the nine keys of Table 1, added in its sequence; the level of the same keys is Table 5
@@ -129,7 +130,7 @@ pub nine-keys :
     (inner 1 (pair (0x5E ∷ []) (text "fs/ext")) ext
     (inner 1 (pair (0x5F ∷ 0xBD ∷ []) []) latest
     none))) none
-unfolding smallTrie
+unfolding of-a-small-trie
 nine-keys = refl
 
 -- the lookup walks to what was added, with its reference, and to nothing else
@@ -137,7 +138,7 @@ pub looked-up :
     (member root (smallTrie (pond ∷ edge ∷ south ∷ [])) edge ≡ true)
     × (member root (smallTrie (pond ∷ edge ∷ south ∷ [])) (key 0 7 "/north/edge" 2) ≡ false)
     × (member root (smallTrie (pond ∷ edge ∷ [])) south ≡ false)
-unfolding smallTrie member
+unfolding of-a-search
 looked-up = (refl, refl, refl)
 
 -- The search of the listing, 0 to 8 and a path that ends in /edge: bytes can be continued where the value begins one of 0 to 8
@@ -154,5 +155,5 @@ is-edge x = sameKey x edge
 pub searched :
     (found goes-on is-edge root [] (smallTrie (pond ∷ edge ∷ south ∷ [])) ≡ edge ∷ [])
     × (nodesEntered goes-on root [] (smallTrie (pond ∷ edge ∷ south ∷ [])) ≡ 4)
-unfolding smallTrie found nodesEntered any begins same sameKey
+unfolding of-a-search
 searched = (refl, refl)
