@@ -14,7 +14,7 @@ use Rattle.trie_theory.proofs.Lists.{all-imp}
 use Rattle.trie_theory.proofs.Sums.{sum-append, sum-more}
 use Rattle.trie_theory.proofs.Prefix.{From, shared-all}
 use Rattle.trie_theory.proofs.Strings.{total-strip-strip, first-some, some-total}
-use Rattle.trie_theory.proofs.Parts.{Parted, done, part, parted, part-first, part-from, differ-inside, sum-parts}
+use Rattle.trie_theory.proofs.Parts.{Partition, done, part, partition, part-first, part-from, differ-inside, sum-parts}
 
 -- the bytes of keys behind k
 unfoldable pub behind : Strings → List Key → ℕ
@@ -27,7 +27,7 @@ undecided ks = behind (shared ks) ks
 
 module _ (d : ℕ) (p : Strings) (inside : d < length p) where
   -- each part has fewer bytes behind its own shared bytes than all parts have behind p
-  each-falls : {b : ℕ} {ps : List (List Key)} → Parted d p (From p) b ps → All (λ q. undecided q < behind p (flat ps)) ps
+  each-falls : {b : ℕ} {ps : List (List Key)} → Partition d p (From p) b ps → All (λ q. undecided q < behind p (flat ps)) ps
   unfolding flat behind undecided
   each-falls done = nil
   each-falls (part {x = x} {xs = xs} {ps = ps} c l u a r) =
@@ -49,4 +49,4 @@ parts-fall d x xs e =
     let ks : List Key = x ∷ xs in
     let p = shared ks in
     let s : behind p (flat (parts d ks)) ≡ behind p ks = sum-parts (λ y. total (strip p (y .strings))) d ks e in
-    all-imp (λ q m. omega arith) (each-falls d p (differ-inside d x xs e) (parted (From p) d (shared-all ks)))
+    all-imp (λ q m. omega arith) (each-falls d p (differ-inside d x xs e) (partition (From p) d (shared-all ks)))

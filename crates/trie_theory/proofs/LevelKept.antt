@@ -16,7 +16,7 @@ use Rattle.trie_theory.proofs.Sums.{sum-append}
 use Rattle.trie_theory.proofs.Prefix.{Prefixes, From, shared-all, shared-greatest}
 use Rattle.trie_theory.proofs.Strings.{join-strip}
 use Rattle.trie_theory.proofs.Keys.{under-remains}
-use Rattle.trie_theory.proofs.Parts.{Parted, done, part, parted, sum-parts}
+use Rattle.trie_theory.proofs.Parts.{Partition, done, part, partition, sum-parts}
 use Rattle.trie_theory.proofs.LevelStep.{children, choice-differ}
 
 unders : (p : Strings) {ks : List Key} → All (From p) ks → map (under p) (map (remains p) ks) ≡ ks
@@ -28,7 +28,7 @@ module _ (n τ : ℕ) (h : Key → ℕ) where
   each-sum : {d b : ℕ} {p : Strings} {ps : List (List Key)} (g : List Key → Forest → Forest)
       → ((x : Key) (xs : List Key) (more : Forest) → All (From p) (x ∷ xs)
       → sum h (keys p (g (x ∷ xs) more)) ≡ sum h (x ∷ xs) + sum h (keys p more))
-      → Parted d p (From p) b ps → sum h (keys p (each g ps)) ≡ sum h (flat ps)
+      → Partition d p (From p) b ps → sum h (keys p (each g ps)) ≡ sum h (flat ps)
   unfolding each flat keys sum
   each-sum g ih done = refl
   each-sum g ih (part {x = x} {xs = xs} {ps = ps} c l u a r) =
@@ -56,14 +56,14 @@ module _ (n τ : ℕ) (h : Key → ℕ) where
   grow-sum (suc f) above k x xs more a =
       let ks : List Key = x ∷ xs in
       node-sum k ks (choice n τ above ks) (children n τ f ks) more (shared-greatest k a)
-      (λ d e. each-sum (grow n τ f (below d) (shared ks)) (grow-sum f (below d) (shared ks)) (parted (From (shared ks)) d (shared-all ks))
+      (λ d e. each-sum (grow n τ f (below d) (shared ks)) (grow-sum f (below d) (shared ks)) (partition (From (shared ks)) d (shared-all ks))
       ∙ sum-parts h d ks (choice-differ n τ above ks d e))
 
   -- the children of a set have its keys
   pub kids-sum : (f : ℕ) (above : Above) (d : ℕ) (ks : List Key) → choice n τ above ks ≡ some d
       → sum h (keys (shared ks) (children n τ f ks d)) ≡ sum h ks
   kids-sum f above d ks e =
-      each-sum (grow n τ f (below d) (shared ks)) (grow-sum f (below d) (shared ks)) (parted (From (shared ks)) d (shared-all ks))
+      each-sum (grow n τ f (below d) (shared ks)) (grow-sum f (below d) (shared ks)) (partition (From (shared ks)) d (shared-all ks))
       ∙ sum-parts h d ks (choice-differ n τ above ks d e)
 
   pub level-sum : (ks : List Key) → sum h (keys [] (levelOf n τ ks)) ≡ sum h ks

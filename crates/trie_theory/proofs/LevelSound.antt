@@ -22,7 +22,7 @@ use Rattle.trie_theory.proofs.Lists.{all-imp, all-both, all-map, all-te
 use Rattle.trie_theory.proofs.Prefix.{From, shared-all}
 use Rattle.trie_theory.proofs.Strings.{length-strip, length-shared, first-some}
 use Rattle.trie_theory.proofs.Round.{not-some}
-use Rattle.trie_theory.proofs.Parts.{Parted, done, part, parted, part-first, parts-two, differ-inside}
+use Rattle.trie_theory.proofs.Parts.{Partition, done, part, partition, part-first, parts-two, differ-inside}
 use Rattle.trie_theory.proofs.LevelStep.{children, choice-differ}
 
 -- sound and ascending
@@ -82,7 +82,7 @@ module _ (n τ : ℕ) where
     each-two (q ∷ ps) = ap length (grow-tops f (below d) p q (each (grow n τ f (below d) p) ps)) ∙ ap suc (each-two ps)
 
     -- the bytes of the children of parts from b on are from b on
-    each-from : {b : ℕ} {ps : List (List Key)} → Parted d p (λ y. From p y × Wide n y) b ps
+    each-from : {b : ℕ} {ps : List (List Key)} → Partition d p (λ y. From p y × Wide n y) b ps
         → All (λ t. b ≤ first d t) (tops (each (grow n τ f (below d) p) ps))
     unfolding each tops
     each-from done = nil
@@ -95,7 +95,7 @@ module _ (n τ : ℕ) where
         → ((x : Key) (xs : List Key) (more : Forest) → All (Wide n) (x ∷ xs) → Starts (below d) (strip p (shared (x ∷ xs)))
         → Below (below d) (strip p (shared (x ∷ xs))) more → Well n (below d) more
         → Well n (below d) (grow n τ f (below d) p (x ∷ xs) more))
-        → Parted d p (λ y. From p y × Wide n y) b ps → Well n (below d) (each (grow n τ f (below d) p) ps)
+        → Partition d p (λ y. From p y × Wide n y) b ps → Well n (below d) (each (grow n τ f (below d) p) ps)
     unfolding each Sound Ascending Starts branching
     each-well ih done = (tt, tt)
     each-well ih (part {x = x} {xs = xs} {ps = ps} c l u a r) =
@@ -118,7 +118,7 @@ module _ (n τ : ℕ) where
       (λ d e. let q = choice-differ n τ above ks d e in
       let i = differ-inside d x xs q in (
         (let t = parts-two d x xs q in omega (arith, each-two f d p i (parts d ks))),
-        each-well f d p i (grow-well f (below d) p) (parted (λ y. From p y × Wide n y) d (all-both (shared-all ks) w)),
+        each-well f d p i (grow-well f (below d) p) (partition (λ y. From p y × Wide n y) d (all-both (shared-all ks) w)),
       ))
 
   -- A LEVEL IS SOUND AND ASCENDS

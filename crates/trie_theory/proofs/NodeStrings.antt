@@ -16,10 +16,10 @@ use Rattle.trie_theory.proofs.Strings.{join-strip}
 use Rattle.trie_theory.proofs.SoundLaws.{some-key}
 
 -- Q holds of each string of each node and suffix
-unfoldable pub Strung : (List ℕ → Type 0) → Forest → Type 0
-Strung Q none = Unit {0}
-Strung Q (leaf s ts more) = All Q s × All (λ t. All Q (t .strings)) ts × Strung Q more
-Strung Q (inner d s kids more) = All Q s × Strung Q kids × Strung Q more
+unfoldable pub EachString : (List ℕ → Type 0) → Forest → Type 0
+EachString Q none = Unit {0}
+EachString Q (leaf s ts more) = All Q s × All (λ t. All Q (t .strings)) ts × EachString Q more
+EachString Q (inner d s kids more) = All Q s × EachString Q kids × EachString Q more
 
 -- what passes from a string to its beginnings and its ends
 abbrev pub Inherited : (List ℕ → Type 0) → Type 0
@@ -42,19 +42,19 @@ module _ (Q : List ℕ → Type 0) (whole : Inherited Q) where
       (subst (All Q) (sym (join-strip (join k s) (x .strings) f)) a) .0) .1
 
   -- EVERY STRING OF A SOUND TRIE
-  pub strung : (n : ℕ) (above : Above) (k : Strings) (f : Forest) → Sound n above f → All (λ x. All Q (x .strings)) (keys k f)
-      → Strung Q f
-  unfolding Strung Sound keys tops under
-  strung n above k none h a = tt
-  strung n above k (leaf s ts more) h a = (
+  pub each-string : (n : ℕ) (above : Above) (k : Strings) (f : Forest) → Sound n above f → All (λ x. All Q (x .strings)) (keys k f)
+      → EachString Q f
+  unfolding EachString Sound keys tops under
+  each-string n above k none h a = tt
+  each-string n above k (leaf s ts more) h a = (
     node-strings k s (some-key n above k (leaf s ts more) h (omega arith) a),
     all-unmap (under (join k s)) (λ t e. all-joined (join k s) (t .strings) e .1) ts (all-left (map (under (join k s)) ts) (keys k more) a),
-    strung n above k more (h .3) (all-right (map (under (join k s)) ts) (keys k more) a),
+    each-string n above k more (h .3) (all-right (map (under (join k s)) ts) (keys k more) a),
   )
-  strung n above k (inner d s kids more) h a = (
+  each-string n above k (inner d s kids more) h a = (
     node-strings k s (some-key n above k (inner d s kids more) h (omega arith) a),
-    strung n (below d) (join k s) kids (h .2) (all-left (keys (join k s) kids) (keys k more) a),
-    strung n above k more (h .3) (all-right (keys (join k s) kids) (keys k more) a),
+    each-string n (below d) (join k s) kids (h .2) (all-left (keys (join k s) kids) (keys k more) a),
+    each-string n above k more (h .3) (all-right (keys (join k s) kids) (keys k more) a),
   )
 
 -- at most B bytes

@@ -20,25 +20,25 @@ use Rattle.trie_theory.proofs.Strings.{length-strip, first-inside}
 
 module _ (d : ℕ) (p : Strings) (P : Key → Type 0) where
   -- Parts with bytes from b on, ascending, none empty; P holds of every key
-  pub data Parted : ℕ → List (List Key) → Type 0 where
-    done : {b : ℕ} → Parted b []
+  pub data Partition : ℕ → List (List Key) → Type 0 where
+    done : {b : ℕ} → Partition b []
     part : {b : ℕ} {x : Key} {xs : List Key} {ps : List (List Key)} (c : ℕ) → b ≤ c → c < 256
-        → All (λ y. P y × (byte d p y ≡ c)) (x ∷ xs) → Parted (suc c) ps → Parted b ((x ∷ xs) ∷ ps)
+        → All (λ y. P y × (byte d p y ≡ c)) (x ∷ xs) → Partition (suc c) ps → Partition b ((x ∷ xs) ∷ ps)
 
-  lower : {b : ℕ} (a : ℕ) {ps : List (List Key)} → a ≤ b → Parted b ps → Parted a ps
+  lower : {b : ℕ} (a : ℕ) {ps : List (List Key)} → a ≤ b → Partition b ps → Partition a ps
   lower a h done = done
   lower a h (part {b = b} c l u q r) = part {b = a} c (omega arith) u q r
 
-  pub parted-from : (f b : ℕ) {ks : List Key} → b + f ≤ 256 → All P ks → Parted b (partsFrom d p f b ks)
+  pub partition-from : (f b : ℕ) {ks : List Key} → b + f ≤ 256 → All P ks → Partition b (partsFrom d p f b ks)
   unfolding partsFrom keep filled
-  parted-from zero b h a = done
-  parted-from (suc f) b {ks} h a =
+  partition-from zero b h a = done
+  partition-from (suc f) b {ks} h a =
       go (pick (λ x. eqb (byte d p x) b) ks)
       (all-imp (λ y q. (q .0, eqb-true (byte d p y) b (q .1))) (all-pick (λ x. eqb (byte d p x) b) a))
-      (parted-from f (suc b) (omega arith) a)
+      (partition-from f (suc b) (omega arith) a)
     where
-      go : (xs : List Key) → All (λ y. P y × (byte d p y ≡ b)) xs → Parted (suc b) (partsFrom d p f (suc b) ks)
-          → Parted b (filled xs (partsFrom d p f (suc b) ks))
+      go : (xs : List Key) → All (λ y. P y × (byte d p y ≡ b)) xs → Partition (suc b) (partsFrom d p f (suc b) ks)
+          → Partition b (filled xs (partsFrom d p f (suc b) ks))
       go [] q r = lower b (omega arith) r
       go (x ∷ xs) q r = part {b = b} b (omega arith) (omega arith) q r
 
@@ -148,9 +148,9 @@ first-self zero (s ∷ ss) = go s
 first-self (suc d) (s ∷ ss) = first-self d ss
 
 -- the parts of keys
-pub parted : (P : Key → Type 0) (d : ℕ) {ks : List Key} → All P ks → Parted d (shared ks) P 0 (parts d ks)
+pub partition : (P : Key → Type 0) (d : ℕ) {ks : List Key} → All P ks → Partition d (shared ks) P 0 (parts d ks)
 unfolding parts
-parted P d {ks} a = parted-from d (shared ks) P 256 0 (omega arith) a
+partition P d {ks} a = partition-from d (shared ks) P 256 0 (omega arith) a
 
 -- n empty strings begin whatever has n strings
 empty-prefixes : (n : ℕ) (s : Strings) → n ≤ length s → Prefixes (replicate n []) s
@@ -202,7 +202,7 @@ other-same c v e = rw (eq-eqb v c e)
 -- KEYS THAT DIFFER HAVE AT LEAST TWO PARTS
 pub parts-two : (d : ℕ) (x : Key) (xs : List Key) → differ d (x ∷ xs) ≡ true → 2 ≤ length (parts d (x ∷ xs))
 unfolding sum flat byte
-parts-two d x xs e = go (parted (From p) d (shared-all ks)) (λ h. sum-parts h d ks e)
+parts-two d x xs e = go (partition (From p) d (shared-all ks)) (λ h. sum-parts h d ks e)
   where
     ks : List Key
     ks = x ∷ xs
@@ -210,7 +210,7 @@ parts-two d x xs e = go (parted (From p) d (shared-all ks)) (λ h. sum-parts h d
     p : Strings
     p = shared (x ∷ xs)
 
-    go : {ps : List (List Key)} → Parted d p (From p) 0 ps → ((h : Key → ℕ) → sum h (flat ps) ≡ sum h ks) → 2 ≤ length ps
+    go : {ps : List (List Key)} → Partition d p (From p) 0 ps → ((h : Key → ℕ) → sum h (flat ps) ≡ sum h ks) → 2 ≤ length ps
     go done s = let z = s (λ x. 1) in absurd (omega arith)
     go (part {x = y} {xs = ys} c l u a done) s =
         let h : Key → ℕ = λ z. other c (byte d p z) in
@@ -225,7 +225,7 @@ parts-two d x xs e = go (parted (From p) d (shared-all ks)) (λ h. sum-parts h d
     go (part c l u a (part c′ l′ u′ a′ r)) s = omega arith
 
 -- a part has fewer keys than all have
-others : {d b : ℕ} {p : Strings} {P : Key → Type 0} {ps : List (List Key)} → Parted d p P b ps
+others : {d b : ℕ} {p : Strings} {P : Key → Type 0} {ps : List (List Key)} → Partition d p P b ps
     → All (λ q. length q + length ps ≤ suc (length (flat ps))) ps
 unfolding flat
 others done = nil
@@ -233,7 +233,7 @@ others (part {x = x} {xs = xs} {ps = ps} c l u a r) =
     cons {x = x ∷ xs} (let m = few r in omega (arith, length-append xs (flat ps)))
     (all-imp (λ q m. omega (arith, length-append xs (flat ps))) (others r))
   where
-    few : {d b : ℕ} {p : Strings} {P : Key → Type 0} {ps : List (List Key)} → Parted d p P b ps → length ps ≤ length (flat ps)
+    few : {d b : ℕ} {p : Strings} {P : Key → Type 0} {ps : List (List Key)} → Partition d p P b ps → length ps ≤ length (flat ps)
     few done = omega arith
     few (part {x = x} {xs = xs} {ps = ps} c l u a r) = let m = few r in omega (arith, length-append xs (flat ps))
 
@@ -243,4 +243,4 @@ parts-short d x xs e =
     let ks : List Key = x ∷ xs in
     let t = parts-two d x xs e in
     let s = equal-length (flat (parts d ks)) ks (λ h. sum-parts h d ks e) in
-    all-imp (λ q m. omega arith) (others (parted (From (shared ks)) d (shared-all ks)))
+    all-imp (λ q m. omega arith) (others (partition (From (shared ks)) d (shared-all ks)))

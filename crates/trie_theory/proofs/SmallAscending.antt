@@ -1,7 +1,7 @@
 -- An addition to a trie whose children ascend leaves them so: a new leaf stands before all siblings with higher bytes.
 use Prim.Native.Nat.{ℕ, _≤_, _<_}
 use mathlib.Core.Path.{_≡_, refl, sym, ap, _∙_}
-use mathlib.Core.Bool.{Bool, true, false, cond, false≢true}
+use mathlib.Core.Bool.{Bool, true, false, cond, _&&_}
 use mathlib.Core.List.{[], _∷_, _++_, map}
 use native.Mathlib.Omega.{arith}
 use lib.Dec.{ltb}
@@ -22,30 +22,34 @@ use Rattle.trie_theory.proofs.SoundLaws.{some-key}
 use Rattle.trie_theory.proofs.SmallStep.{placed, placed-cases}
 use Rattle.trie_theory.proofs.SmallSound.{Fronts, commons-branching, tops-added, below-free, below-starts}
 
--- a byte that is neither a node's nor below those of the node and its later siblings, which ascend, is above the node's
-later-above : (above : Above) (s k : Strings) (f more : Forest) → tops f ≡ s ∷ tops more → ahead above s more ≡ true
-    → meets above s k ≡ false
-    → ahead above k f ≡ false → ltb (branching above s) (branching above k) ≡ true
+-- Where siblings ascend, a byte is below all of theirs exactly if it is below the first one's: the one comparison that code makes
+pub ahead-next : (above : Above) (k s : Strings) (f more : Forest) → tops f ≡ s ∷ tops more → ahead above s more ≡ true
+    → ahead above k f ≡ ltb (branching above k) (branching above s)
 unfolding ahead
-later-above above s k f more e a m b = go (ltb (branching above s) (branching above k)) refl
+ahead-next above k s f more e a = ap (all higher) e ∙ go (higher s) refl
   where
     higher : Strings → Bool
     higher = λ t. ltb (branching above k) (branching above t)
 
-    strict : (i j : ℕ) → i ≤ j → (j ≡ i → ⊥) → i < j
+    go : (w : Bool) → higher s ≡ w → (w && all higher (tops more)) ≡ w
+    go true q =
+        all-test higher (all-imp (λ t h. lt-ltb (branching above k) (branching above t) (omega (
+          arith,
+          ltb-true (branching above k) (branching above s) q,
+          ltb-true (branching above s) (branching above t) h,
+        ))) (all-tested (λ t. ltb (branching above s) (branching above t)) (tops more) a))
+    go false q = refl
+
+-- a byte that is neither a node's nor below those of the node and its later siblings is above the node's
+later-above : (above : Above) (s k : Strings) (f more : Forest) → tops f ≡ s ∷ tops more → ahead above s more ≡ true
+    → meets above s k ≡ false → ahead above k f ≡ false → ltb (branching above s) (branching above k) ≡ true
+later-above above s k f more e a m b =
+    lt-ltb (branching above s) (branching above k)
+    (strict (branching above s) (branching above k)
+    (ltb-false (branching above k) (branching above s) (sym (ahead-next above k s f more e a) ∙ b)) (meets-false above s k m))
+  where
+    strict : (i j : ℕ) → i ≤ j → (i ≡ j → ⊥) → i < j
     strict i j h n = omega arith
-
-    past : branching above k < branching above s → (t : Strings) → ltb (branching above s) (branching above t) ≡ true
-        → higher t ≡ true
-    past l t h = let q = ltb-true (branching above s) (branching above t) h in lt-ltb (branching above k) (branching above t) (omega arith)
-
-    go : (w : Bool) → ltb (branching above s) (branching above k) ≡ w → w ≡ true
-    go true q = refl
-    go false q =
-        let l = strict (branching above k) (branching above s) (ltb-false (branching above s) (branching above k) q)
-        (meets-false above s k m) in
-        let rest = all-imp (past l) (all-tested (λ t. ltb (branching above s) (branching above t)) (tops more) a) in
-        absurd (false≢true (sym b ∙ ap (all higher) e ∙ and-both (lt-ltb (branching above k) (branching above s) l) (all-test higher rest)))
 
 ahead-added : (n : ℕ) (above : Above) (s : Strings) (f : Forest) (x : Key) → Sound n above f → Starts above (x .strings)
     → ahead above s f ≡ true → ltb (branching above s) (branching above (x .strings)) ≡ true

@@ -19,7 +19,7 @@ use Rattle.trie_theory.specs.Sound.{Wide, Sound, Ascending, Bare}
 use Rattle.trie_theory.specs.Encode.{encode}
 use Rattle.trie_theory.specs.Size.{height}
 use Rattle.trie_theory.specs.Entries.{complete, Stops, dims, Entry}
-use Rattle.trie_theory.specs.Right.{TrieOf}
+use Rattle.trie_theory.specs.TrieOf.{TrieOf}
 use Rattle.trie_theory.proofs.Lists.{all-imp}
 use Rattle.trie_theory.proofs.Sums.{equal-length, equal-picked, equal-all, equal-any}
 use Rattle.trie_theory.proofs.Search.{found-all}
@@ -33,10 +33,10 @@ use Rattle.trie_theory.proofs.SmallKept.{small-sum}
 use Rattle.trie_theory.proofs.SmallBare.{small-small}
 
 -- A SOUND TRIE with the keys xs, each as often
-pub sound-right : (n m : ℕ) (xs : List Key) (t : Forest) → Sound n root t → ((h : Key → ℕ) → sum h (keys [] t) ≡ sum h xs)
+pub sound-trie : (n m : ℕ) (xs : List Key) (t : Forest) → Sound n root t → ((h : Key → ℕ) → sum h (keys [] t) ≡ sum h xs)
     → All (λ x. total (x .strings) ≤ m) xs → All Twenty xs → TrieOf n m xs t
 unfolding count among
-sound-right n m xs t s equal short named =
+sound-trie n m xs t s equal short named =
     let short-keys : All (λ x. total (x .strings) ≤ m) (keys [] t) =
     equal-all (keys [] t) xs equal (λ x. leb (total (x .strings)) m) (λ x. total (x .strings) ≤ m)
     (λ x e. leb-true (total (x .strings)) m e) (λ x l. le-leb (total (x .strings)) m l) short in
@@ -63,29 +63,29 @@ sound-right n m xs t s equal short named =
         rw (e, ← same) l
 
 -- A LEVEL, whose siblings ascend
-pub level-right : (n m τ : ℕ) (xs : List Key) → All (Wide n) xs → All (λ x. total (x .strings) ≤ m) xs → All Twenty xs
+pub level-trie : (n m τ : ℕ) (xs : List Key) → All (Wide n) xs → All (λ x. total (x .strings) ≤ m) xs → All Twenty xs
     → TrieOf n m xs (levelOf n τ xs) × Ascending root (levelOf n τ xs)
-level-right n m τ xs wide short named =
+level-trie n m τ xs wide short named =
     let w = level-well n τ xs wide in
-    (sound-right n m xs (levelOf n τ xs) (w .0) (λ h. level-sum n τ h xs) short named, w .1)
+    (sound-trie n m xs (levelOf n τ xs) (w .0) (λ h. level-sum n τ h xs) short named, w .1)
 
 -- A SMALL TRIE, whose siblings ascend and which has one path and value per leaf
-pub small-right : (cs : List (List ℕ → Bool)) → All Stops cs → (m : ℕ) (xs : List Key)
+pub small-trie : (cs : List (List ℕ → Bool)) → All Stops cs → (m : ℕ) (xs : List Key)
     → All (λ x. complete cs (x .strings) ≡ true) xs → All (λ x. total (x .strings) ≤ m) xs → All Twenty xs
     → TrieOf (length cs) m xs (smallTrie xs) × Ascending root (smallTrie xs) × Bare (smallTrie xs)
-small-right cs stop m xs whole short named =
+small-trie cs stop m xs whole short named =
     let s = small-small cs stop whole in
-    (sound-right (length cs) m xs (smallTrie xs) (s .0 .sound) (λ h. small-sum h xs) short named, s .1, s .0 .bare)
+    (sound-trie (length cs) m xs (smallTrie xs) (s .0 .sound) (λ h. small-sum h xs) short named, s .1, s .0 .bare)
 
 -- OF ENTRIES
 module _ (xs : List Key) (entries : All Entry xs) where
   pub level-entries : (τ : ℕ) → TrieOf 2 209 xs (levelOf 2 τ xs) × Ascending root (levelOf 2 τ xs)
-  level-entries τ = level-right 2 209 τ xs (all-imp entry-wide entries) (all-imp entry-total entries) (all-imp (λ x e. e .named) entries)
+  level-entries τ = level-trie 2 209 τ xs (all-imp entry-wide entries) (all-imp entry-total entries) (all-imp (λ x e. e .named) entries)
 
   pub small-entries : TrieOf 2 209 xs (smallTrie xs) × Ascending root (smallTrie xs) × Bare (smallTrie xs)
   unfolding dims
   small-entries =
-      small-right dims dims-stop 209 xs (all-imp (λ x e. e .whole) entries) (all-imp entry-total entries)
+      small-trie dims dims-stop 209 xs (all-imp (λ x e. e .whole) entries) (all-imp entry-total entries)
       (all-imp (λ x e. e .named) entries)
 
 -- in figures: at most 245 bytes for each, and 210 nodes one below the other

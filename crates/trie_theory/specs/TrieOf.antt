@@ -1,4 +1,4 @@
--- What is proved of every sound trie, so of levels and of small tries alike (proofs/Right.antt): the trie of a list of keys.
+-- What is proved of every sound trie, so of levels and of small tries alike (proofs/TrieOf.antt): the trie of a list of keys.
 use Prim.Native.Nat.{ℕ, suc, _+_, _*_, _≤_}
 use mathlib.Core.Path.{_≡_}
 use mathlib.Core.Bool.{Bool, true}
