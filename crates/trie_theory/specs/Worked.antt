@@ -1,4 +1,4 @@
--- The nine keys of Table 1 and what is computed from them: Table 3 and P1 to P4, Table 5. And small tries node by node.
+-- The nine keys of Table 1 and what is computed from them: Table 3 and P1 to P4, Table 5. And the level drawn in Level.antt.
 use mathlib.Core.Path.{_≡_, refl}
 use Prim.Native.Nat.{ℕ}
 use Prim.Native.String.{String}

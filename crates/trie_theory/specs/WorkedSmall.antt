@@ -12,7 +12,8 @@ use Rattle.trie_theory.specs.Lists.{any, same}
 use Rattle.trie_theory.specs.Strings.{begins, at}
 use Rattle.trie_theory.specs.Lookup.{sameKey, member}
 use Rattle.trie_theory.specs.Search.{found, nodesEntered}
-use Rattle.trie_theory.specs.Computing.{of-a-small-trie, of-a-search}
+use Rattle.trie_theory.specs.Encode.{encode}
+use Rattle.trie_theory.specs.Computing.{of-a-small-trie, of-a-search, of-bytes}
 use Rattle.trie_theory.specs.Worked.{text, ended, value, reference, pair, entry, nine, r1, r2, r3, r4, r5, r6, r7}
 
 -- six zero bytes, a value's first
@@ -157,3 +158,14 @@ pub searched :
     × (nodesEntered goes-on root [] (smallTrie (pond ∷ edge ∷ south ∷ [])) ≡ 4)
 unfolding of-a-search
 searched = (refl, refl)
+
+-- the bytes of a leaf of no value byte, the path p and the reference 1
+abbrev pub leaf-bytes : String → List ℕ
+leaf-bytes p = 0 ∷ 0 ∷ 5 ∷ 0 ∷ 0 ∷ 0 ∷ 22 ∷ (ended p ++ (0 ∷ 0 ∷ reference 1 0 0 0 0))
+
+-- in bytes: a node that branches in the path (2), 8 value and 7 path bytes, a body of 68, its strings, and two leaves
+pub in-bytes :
+    encode (smallTrie (pond ∷ edge ∷ []))
+    ≡ 2 ∷ 8 ∷ 7 ∷ 0 ∷ 0 ∷ 0 ∷ 68 ∷ (six ++ (0 ∷ 7 ∷ (text "/north/" ++ (leaf-bytes "edge" ++ leaf-bytes "pond"))))
+unfolding of-bytes
+in-bytes = refl
