@@ -22,6 +22,7 @@ pub mod Fall
 pub mod LevelStep
 pub mod LevelKept
 pub mod LevelSound
+pub mod LevelBytes
 pub mod LevelWalk
 pub mod Route
 -- The small trie
