@@ -1,0 +1,138 @@
+-- THE SEARCH THEOREM, of any tries whatever: a child that is passed over has no key that matches, since its branching byte
+-- begins all its keys. And the nodes that a search enters, walking, are those that the rule of entering admits.
+use Prim.Native.Nat.{ℕ, zero, suc, _+_, _≤_}
+use mathlib.Core.Path.{_≡_, refl, sym, ap, ap₂, _∙_}
+use mathlib.Core.Bool.{Bool, true, false, cond, true≢false}
+use mathlib.Core.List.{List, [], _∷_, _++_, map}
+use native.Mathlib.Omega.{arith}
+use Rattle.trie_theory.specs.Forest.{Strings, Key, Forest, none, leaf, inner, join, under, keys}
+use Rattle.trie_theory.specs.Lists.{All, nil, cons, pick}
+use Rattle.trie_theory.specs.Strings.{goesOn}
+use Rattle.trie_theory.specs.Dimensions.{Above, root, below}
+use Rattle.trie_theory.specs.Search.{branch, enters, nodesEntered, found}
+use Rattle.trie_theory.specs.Size.{nodes}
+use Rattle.trie_theory.proofs.Lists.{pick-append, not-true}
+use Rattle.trie_theory.proofs.Prefix.{Prefix, Prefixes, From, prefixes-goesOn, prefix-refl, prefixes-refl, prefixes-join}
+use Rattle.trie_theory.proofs.Prefix.{prefixes-trans, prefix-append}
+use Rattle.trie_theory.proofs.Keys.{from-under, all-keys}
+
+prefix-more : (k : List ℕ) (b : ℕ) (s : List ℕ) → Prefix (k ++ (b ∷ [])) (k ++ (b ∷ s))
+unfolding Prefix
+prefix-more [] b s = (refl, tt)
+prefix-more (a ∷ k) b s = (refl, prefix-more k b s)
+
+-- the branching byte behind the known bytes begins what is known below the child, and is begun by them
+pub branch-join : (d : ℕ) (k s : Strings) → Prefixes (branch d k s) (join k s)
+unfolding branch join Prefixes
+branch-join d [] s = tt
+branch-join d (k ∷ ks) [] = prefixes-refl (k ∷ ks)
+branch-join zero (k ∷ ks) ([] ∷ ss) = (prefix-append k [], prefixes-join ks ss)
+branch-join zero (k ∷ ks) ((b ∷ s) ∷ ss) = (prefix-more k b s, prefixes-join ks ss)
+branch-join (suc d) (k ∷ ks) (s ∷ ss) = (prefix-append k s, branch-join d ks ss)
+
+known-branch : (d : ℕ) (k s : Strings) → Prefixes k (branch d k s)
+unfolding branch Prefixes
+known-branch d [] s = tt
+known-branch d (k ∷ ks) [] = prefixes-refl (k ∷ ks)
+known-branch zero (k ∷ ks) ([] ∷ ss) = prefixes-refl (k ∷ ks)
+known-branch zero (k ∷ ks) ((b ∷ s) ∷ ss) = (prefix-append k (b ∷ []), prefixes-refl ks)
+known-branch (suc d) (k ∷ ks) (s ∷ ss) = (prefix-refl k, known-branch d ks ss)
+
+module _ (reach : Strings → Bool) (matching : Key → Bool)
+    (sees : (k : Strings) (x : Key) → goesOn k (x .strings) ≡ true → matching x ≡ true → reach k ≡ true) where
+  none-matching : (k : Strings) {xs : List Key} → All (From k) xs → reach k ≡ false → pick matching xs ≡ []
+  unfolding pick
+  none-matching k nil blocked = refl
+  none-matching k (cons {x = x} {xs = xs} h a) blocked = go (matching x) refl (none-matching k a blocked)
+    where
+      go : (w : Bool) → matching x ≡ w → pick matching xs ≡ [] → cond w (x ∷ pick matching xs) (pick matching xs) ≡ []
+      go true e r = absurd (true≢false (sym (sees k x (prefixes-goesOn k (x .strings) h) e) ∙ blocked))
+      go false e r = r
+
+  -- a node that is passed over has nothing that matches
+  guarded : (above : Above) (k s : Strings) {xs : List Key} → All (From (join k s)) xs
+      → cond (enters reach above k s) (pick matching xs) [] ≡ pick matching xs
+  unfolding enters
+  guarded root k s a = refl
+  guarded (below d) k s {xs} a = go (reach (branch d k s)) refl
+    where
+      shorter : {ys : List Key} → All (From (join k s)) ys → All (From (branch d k s)) ys
+      shorter nil = nil
+      shorter (cons {x = x} h r) = cons (prefixes-trans (branch d k s) (join k s) (x .strings) (branch-join d k s) h) (shorter r)
+
+      go : (w : Bool) → reach (branch d k s) ≡ w → cond w (pick matching xs) [] ≡ pick matching xs
+      go true e = refl
+      go false e = sym (none-matching (branch d k s) (shorter a) e)
+
+  -- WHAT IS FOUND is every key that matches, in the tries' own sequence
+  pub found-all : (above : Above) (k : Strings) (f : Forest) → found reach matching above k f ≡ pick matching (keys k f)
+  unfolding found keys pick
+  found-all above k none = refl
+  found-all above k (leaf s ts more) =
+      ap₂ _++_ (guarded above k s (from-under (join k s) ts)) (found-all above k more)
+      ∙ sym (pick-append matching (map (under (join k s)) ts) (keys k more))
+  found-all above k (inner d s kids more) =
+      ap₂ _++_
+      (ap (λ (l : List Key). cond (enters reach above k s) l []) (found-all (below d) (join k s) kids)
+      ∙ guarded above k s (all-keys (join k s) kids))
+      (found-all above k more)
+      ∙ sym (pick-append matching (keys (join k s) kids) (keys k more))
+
+-- the nodes that the rule of entering admits, walked to or not
+unfoldable pub admitted : (Strings → Bool) → Above → Strings → Forest → ℕ
+unfolding enters join
+admitted reach above k none = 0
+admitted reach above k (leaf s ts more) = cond (enters reach above k s) 1 0 + admitted reach above k more
+admitted reach above k (inner d s kids more) =
+    cond (enters reach above k s) 1 0 + admitted reach (below d) (join k s) kids + admitted reach above k more
+
+module _ (reach : Strings → Bool) (down : (k l : Strings) → goesOn k l ≡ true → reach l ≡ true → reach k ≡ true) where
+  -- where bytes are refused, so is all that goes on from them
+  refused : (k l : Strings) → Prefixes k l → reach k ≡ false → reach l ≡ false
+  refused k l h e = not-true (reach l) (λ q. true≢false (sym (down k l (prefixes-goesOn k l h) q) ∙ e))
+
+  none-admitted : (d : ℕ) (k : Strings) (f : Forest) → reach k ≡ false → admitted reach (below d) k f ≡ 0
+  unfolding admitted enters
+  none-admitted d k none e = refl
+  none-admitted d k (leaf s ts more) e = rw (refused k (branch d k s) (known-branch d k s) e) (omega (arith, none-admitted d k more e))
+  none-admitted d k (inner c s kids more) e =
+      rw (refused k (branch d k s) (known-branch d k s) e)
+      (omega (arith, none-admitted c (join k s) kids (refused k (join k s) (prefixes-join k s) e), none-admitted d k more e))
+
+  -- THE NODE COUNT: a walk enters exactly what the rule admits
+  pub entered-admitted : (above : Above) (k : Strings) (f : Forest) → nodesEntered reach above k f ≡ admitted reach above k f
+  unfolding nodesEntered admitted
+  entered-admitted above k none = refl
+  entered-admitted above k (leaf s ts more) = ap (λ (x : ℕ). cond (enters reach above k s) 1 0 + x) (entered-admitted above k more)
+  entered-admitted above k (inner c s kids more) =
+      go (enters reach above k s) refl (entered-admitted (below c) (join k s) kids) (entered-admitted above k more)
+    where
+      blocked : (above : Above) → enters reach above k s ≡ false → reach (join k s) ≡ false
+      blocked root e = absurd (true≢false (unfold enters in e))
+      blocked (below d) e = refused (branch d k s) (join k s) (branch-join d k s) (unfold enters in e)
+
+      go : (w : Bool) → enters reach above k s ≡ w
+          → nodesEntered reach (below c) (join k s) kids ≡ admitted reach (below c) (join k s) kids
+          → nodesEntered reach above k more ≡ admitted reach above k more
+          → cond w (1 + nodesEntered reach (below c) (join k s) kids) 0 + nodesEntered reach above k more
+          ≡ cond w 1 0 + admitted reach (below c) (join k s) kids + admitted reach above k more
+      go true q ihk ih = omega arith
+      go false q ihk ih = omega (arith, ih, none-admitted c (join k s) kids (blocked above q))
+
+-- no more nodes are entered than there are
+pub entered-most : (reach : Strings → Bool) (above : Above) (k : Strings) (f : Forest) → nodesEntered reach above k f ≤ nodes f
+unfolding nodesEntered nodes
+entered-most reach above k none = omega arith
+entered-most reach above k (leaf s ts more) = go (enters reach above k s) (entered-most reach above k more)
+  where
+    go : (w : Bool) → nodesEntered reach above k more ≤ nodes more
+        → cond w 1 0 + nodesEntered reach above k more ≤ suc (nodes more)
+    go true h = omega arith
+    go false h = omega arith
+entered-most reach above k (inner d s kids more) =
+    go (enters reach above k s) (entered-most reach (below d) (join k s) kids) (entered-most reach above k more)
+  where
+    go : (w : Bool) → nodesEntered reach (below d) (join k s) kids ≤ nodes kids → nodesEntered reach above k more ≤ nodes more
+        → cond w (1 + nodesEntered reach (below d) (join k s) kids) 0 + nodesEntered reach above k more ≤ suc (nodes kids + nodes more)
+    go true g h = omega arith
+    go false g h = omega arith

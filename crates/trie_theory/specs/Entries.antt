@@ -1,0 +1,51 @@
+-- Keys of entries: a test for each dimension, such that no string that passes is a proper beginning of another.
+use Prim.Native.Nat.{ℕ, zero, suc, _≤_, _<_}
+use mathlib.Core.Path.{_≡_}
+use mathlib.Core.Bool.{Bool, true, false, _&&_}
+use mathlib.Core.List.{List, [], _∷_, _++_}
+use lib.ListN.{length}
+use lib.Dec.{eqb}
+use Rattle.trie_theory.specs.Forest.{Strings, Key, Forest, keys}
+use Rattle.trie_theory.specs.Lists.{All}
+use Rattle.trie_theory.specs.Strings.{at}
+use Rattle.trie_theory.specs.Dimensions.{root}
+use Rattle.trie_theory.specs.Sound.{Sound, Bare}
+
+-- each string passes the test of its dimension, and there are as many
+unfoldable pub complete : List (List ℕ → Bool) → Strings → Bool
+complete [] [] = true
+complete [] (s ∷ ss) = false
+complete (c ∷ cs) [] = false
+complete (c ∷ cs) (s ∷ ss) = c s && complete cs ss
+
+-- no string that passes is a proper beginning of one that passes
+unfoldable pub Stops : (List ℕ → Bool) → Type 0
+Stops c = (u v : List ℕ) → c u ≡ true → c (u ++ v) ≡ true → v ≡ []
+
+-- a value has eight bytes
+unfoldable pub isValue : List ℕ → Bool
+isValue s = eqb (length s) 8
+
+-- a path ends with its only byte 0
+unfoldable pub isPath : List ℕ → Bool
+isPath [] = false
+isPath (zero ∷ []) = true
+isPath (zero ∷ b ∷ s) = false
+isPath (suc a ∷ s) = isPath s
+
+-- the two dimensions
+unfoldable pub dims : List (List ℕ → Bool)
+dims = isValue ∷ isPath ∷ []
+
+-- the key of an entry: a value, a path of at most 201 bytes with its end byte, and a reference of 20
+pub record Entry (x : Key) : Type 0 where
+  pub whole : complete dims (x .strings) ≡ true
+  pub short : length (at 1 (x .strings)) ≤ 201
+  pub bytes : All (All (λ b. b < 256)) (x .strings)
+  pub named : length (x .reference) ≡ 20
+
+-- a small trie, our own or another's: sound, and from the root to each leaf the strings join to one whole key
+pub record Small (cs : List (List ℕ → Bool)) (t : Forest) : Type 0 where
+  pub sound : Sound (length cs) root t
+  pub bare : Bare t
+  pub whole : All (λ x. complete cs (x .strings) ≡ true) (keys [] t)

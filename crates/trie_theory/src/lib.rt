@@ -1,0 +1,1 @@
+// Definitions and laws of tries, without code: everything here is antt (specs/ and proofs/).
