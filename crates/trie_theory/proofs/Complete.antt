@@ -7,10 +7,10 @@ use native.Mathlib.Omega.{arith}
 use lib.ListN.{length, length-append}
 use borrow.Author.Tests.{eqb-true}
 use Rattle.trie_theory.specs.Forest.{Strings, Key}
-use Rattle.trie_theory.specs.Lists.{All, nil, cons}
+use Rattle.buffer.specs.Lists.{All, nil, cons}
 use Rattle.trie_theory.specs.Strings.{at, total}
 use Rattle.trie_theory.specs.Entries.{complete, Stops, isValue, isPath, dims, Entry}
-use Rattle.trie_theory.proofs.Lists.{and-left, and-right}
+use Rattle.buffer.proofs.Tests.{and-left, and-right}
 use Rattle.trie_theory.proofs.Free.{Free}
 
 value-stops : Stops isValue

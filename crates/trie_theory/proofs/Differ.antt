@@ -8,13 +8,12 @@ use native.Mathlib.Omega.{arith}
 use lib.ListN.{length, drop}
 use lib.Dec.{ltb}
 use borrow.Author.Tests.{ltb-false, eq-eqb}
-use Rattle.buffer.specs.Lists.{all}
+use Rattle.buffer.specs.Lists.{all, All, nil, cons}
 use Rattle.trie_theory.specs.Forest.{Strings, Key}
-use Rattle.trie_theory.specs.Lists.{All, nil, cons}
 use Rattle.trie_theory.specs.Strings.{common, strip, at, first}
 use Rattle.trie_theory.specs.Position.{narrow, shared, position, byte, differ}
 use Rattle.trie_theory.specs.Entries.{Entry}
-use Rattle.trie_theory.proofs.Lists.{In, at-head, later, all-head, all-tail, all-imp, all-both, all-in}
+use Rattle.buffer.proofs.Lists.{In, at-head, later, all-head, all-tail, all-imp, all-both, all-in}
 use Rattle.trie_theory.proofs.Prefix.{Prefix, shared-all, prefixes-at, prefix-trans}
 use Rattle.trie_theory.proofs.Strings.{drop-prefix, at-strip, first-at}
 use Rattle.trie_theory.proofs.Parts.{differ-all, differ-inside, part-first, first-self}

@@ -5,23 +5,15 @@ use mathlib.Core.List.{List, [], _∷_, _++_, map, append-assoc}
 use native.Mathlib.Omega.{arith}
 use lib.ListN.{length, length-append, length-map}
 use Rattle.trie_theory.specs.Forest.{Strings, Key, Forest, none, leaf, inner, join, under, keys}
-use Rattle.trie_theory.specs.Lists.{All, nil, cons, sum, flat}
+use Rattle.buffer.specs.Lists.{All, nil, cons, sum, flat}
 use Rattle.trie_theory.specs.Strings.{total}
 use Rattle.trie_theory.specs.Dimensions.{Above, below}
 use Rattle.trie_theory.specs.Sound.{Wide, Sound}
-use Rattle.trie_theory.specs.Encode.{suffixBytes, four, nodeBytes, encode}
+use Rattle.trie_theory.specs.Encode.{suffixBytes, nodeBytes, encode, Twenty, Regular}
+use Rattle.buffer.specs.Numbers.{bytesOf, number}
+use Rattle.buffer.proofs.Digits.{length-bytesOf, number-bytesOf}
 use Rattle.trie_theory.specs.Size.{cost}
-use Rattle.trie_theory.proofs.Lists.{all-left, all-right, all-unmap, all-both}
-
--- a reference has 20 bytes
-abbrev pub Twenty : Key → Type 0
-Twenty x = length (x .reference) ≡ 20
-
--- what the encoding asks for: n strings in each node and suffix, and references of 20 bytes
-unfoldable pub Regular : ℕ → Forest → Type 0
-Regular n none = Unit {0}
-Regular n (leaf s ts more) = (length s ≡ n) × All (λ t. Wide n t × Twenty t) ts × Regular n more
-Regular n (inner d s kids more) = (length s ≡ n) × Regular n kids × Regular n more
+use Rattle.buffer.proofs.Lists.{all-left, all-right, all-unmap, all-both}
 
 pub sound-regular : (n : ℕ) (above : Above) (k : Strings) (f : Forest) → Sound n above f → All Twenty (keys k f) → Regular n f
 unfolding Regular Sound keys under
@@ -43,11 +35,13 @@ length-flat [] = refl
 length-flat (s ∷ ss) = omega (arith, length-append s (flat ss), length-flat ss)
 
 pub length-node : (kind : ℕ) (s : Strings) (body : List ℕ) → length (nodeBytes kind s body) ≡ 5 + length s + total s + length body
-unfolding nodeBytes four
+unfolding nodeBytes
 length-node kind s body =
     omega (
       arith,
-      length-append (map length s) (four (length body) ++ (flat s ++ body)),
+      length-append (map length s) (bytesOf 4 (length body) ++ (flat s ++ body)),
+      length-append (bytesOf 4 (length body)) (flat s ++ body),
+      length-bytesOf 4 (length body),
       length-map s length,
       length-append (flat s) body,
       length-flat s,
@@ -142,21 +136,9 @@ suffixes-parts n (cons {x = t} {xs = ts} h a) (cons {x = u} {xs = us} g b) e =
     let r = suffix-parts n t u (flat (map suffixBytes ts)) (flat (map suffixBytes us)) h g e in
     ap₂ _∷_ (r .0) (suffixes-parts n a b (r .1))
 
--- four digits give every number back, the top one not being reduced
-digits : (n : ℕ) → n ≡ n / 16777216 * 16777216 + n / 65536 % 256 * 65536 + n / 256 % 256 * 256 + n % 256
-digits n = join n (n / 256) (n / 65536) (n / 16777216) (n / 256 % 256) (n / 65536 % 256) (n % 256) (omega arith) (omega arith) (omega arith)
-  where
-    join : (n a b c d e f : ℕ) → n ≡ a * 256 + f → a ≡ b * 256 + d → b ≡ c * 256 + e → n ≡ c * 16777216 + e * 65536 + d * 256 + f
-    join n a b c d e f p q r = omega arith
-
-four-parts : (m n : ℕ) → four m ≡ four n → m ≡ n
-unfolding four
-four-parts m n h =
-    let a : m / 16777216 ≡ n / 16777216 = cc in
-    let b : m / 65536 % 256 ≡ n / 65536 % 256 = cc in
-    let c : m / 256 % 256 ≡ n / 256 % 256 = cc in
-    let d : m % 256 ≡ n % 256 = cc in
-    digits m ∙ rw (a, b, c, d) (sym (digits n))
+-- four bytes give every number back
+four-parts : (m n : ℕ) → bytesOf 4 m ≡ bytesOf 4 n → m ≡ n
+four-parts m n h = sym (number-bytesOf 3 m) ∙ ap number h ∙ number-bytesOf 3 n
 
 -- the parts of a node
 pub record Parts (k k′ : ℕ) (s s′ : Strings) (b b′ m m′ : List ℕ) : Type 0 where
@@ -171,21 +153,21 @@ pub node-parts : (k k′ : ℕ) (s s′ : Strings) (b b′ m m′ : List ℕ) �
 unfolding nodeBytes
 node-parts k k′ s s′ b b′ m m′ l e =
     let i : k ≡ k′ = cc in
-    let rest : (map length s ++ (four (length b) ++ (flat s ++ b))) ++ m
-    ≡ (map length s′ ++ (four (length b′) ++ (flat s′ ++ b′))) ++ m′ = cc in
-    let p = halves (map length s) (map length s′) (four (length b) ++ (flat s ++ (b ++ m))) (four (length b′) ++ (flat s′ ++ (b′ ++ m′)))
+    let rest : (map length s ++ (bytesOf 4 (length b) ++ (flat s ++ b))) ++ m
+    ≡ (map length s′ ++ (bytesOf 4 (length b′) ++ (flat s′ ++ b′))) ++ m′ = cc in
+    let p = halves (map length s) (map length s′) (bytesOf 4 (length b) ++ (flat s ++ (b ++ m))) (bytesOf 4 (length b′) ++ (flat s′ ++ (b′ ++ m′)))
     (equal-lengths s s′ l) (sym (regroup s b m) ∙ rest ∙ regroup s′ b′ m′) in
-    let q = halves (four (length b)) (four (length b′)) (flat s ++ (b ++ m)) (flat s′ ++ (b′ ++ m′))
+    let q = halves (bytesOf 4 (length b)) (bytesOf 4 (length b′)) (flat s ++ (b ++ m)) (flat s′ ++ (b′ ++ m′))
     (four-long (length b) ∙ sym (four-long (length b′))) (p .1) in
     let r = strings-parts s s′ (b ++ m) (b′ ++ m′) (p .0) (q .1) in
     let t = halves b b′ m m′ (four-parts (length b) (length b′) (q .0)) (r .1) in
     record { kind = i; strings = r .0; body = t .0; more = t .1 }
   where
-    four-long : (n : ℕ) → length (four n) ≡ 4
-    four-long n = unfold four in refl
+    four-long : (n : ℕ) → length (bytesOf 4 n) ≡ 4
+    four-long n = length-bytesOf 4 n
 
     regroup : (s : Strings) (b m : List ℕ)
-        → (map length s ++ (four (length b) ++ (flat s ++ b))) ++ m ≡ map length s ++ (four (length b) ++ (flat s ++ (b ++ m)))
+        → (map length s ++ (bytesOf 4 (length b) ++ (flat s ++ b))) ++ m ≡ map length s ++ (bytesOf 4 (length b) ++ (flat s ++ (b ++ m)))
     regroup s b m = simp append-assoc
 
 -- THE BYTES GIVE THE TRIE BACK

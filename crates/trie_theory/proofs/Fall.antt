@@ -6,12 +6,12 @@ use mathlib.Core.List.{List, _∷_, _++_}
 use native.Mathlib.Omega.{arith}
 use lib.ListN.{length}
 use Rattle.trie_theory.specs.Forest.{Strings, Key}
-use Rattle.trie_theory.specs.Lists.{All, nil, cons, sum, flat}
+use Rattle.buffer.specs.Lists.{All, nil, cons, sum, flat}
 use Rattle.trie_theory.specs.Strings.{strip, total}
 use Rattle.trie_theory.specs.Position.{shared, differ}
 use Rattle.trie_theory.specs.Parts.{parts}
-use Rattle.trie_theory.proofs.Lists.{all-imp}
-use Rattle.trie_theory.proofs.Sums.{sum-append, sum-more}
+use Rattle.buffer.proofs.Lists.{all-imp}
+use Rattle.buffer.proofs.Sums.{sum-append, sum-more}
 use Rattle.trie_theory.proofs.Prefix.{From, shared-all}
 use Rattle.trie_theory.proofs.Strings.{total-strip-strip, first-some, some-total}
 use Rattle.trie_theory.proofs.Parts.{Partition, done, part, partition, part-first, part-from, differ-inside, sum-parts}

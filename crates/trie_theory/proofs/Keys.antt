@@ -2,9 +2,9 @@
 use mathlib.Core.Path.{_≡_, refl, sym, ap, ap₂, _∙_}
 use mathlib.Core.List.{List, [], _∷_, _++_, map}
 use Rattle.trie_theory.specs.Forest.{Strings, Key, Forest, none, leaf, inner, join, under, keys}
-use Rattle.trie_theory.specs.Lists.{All, nil}
+use Rattle.buffer.specs.Lists.{All, nil}
 use Rattle.trie_theory.specs.Strings.{remains}
-use Rattle.trie_theory.proofs.Lists.{all-append, all-map, all-every, all-imp, map-append}
+use Rattle.buffer.proofs.Lists.{all-append, all-map, all-every, all-imp, map-append}
 use Rattle.trie_theory.proofs.Prefix.{From, prefixes-join, prefixes-trans}
 use Rattle.trie_theory.proofs.Strings.{join-assoc, join-nil, join-strip}
 

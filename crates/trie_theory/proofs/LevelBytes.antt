@@ -5,7 +5,7 @@ use mathlib.Core.Path.{_≡_, refl, sym, ap, ap₂, _∙_}
 use mathlib.Core.Option.{Option, none, some}
 use mathlib.Core.List.{List, [], _∷_, _++_, map, append-nil}
 use Rattle.trie_theory.specs.Forest.{Strings, Key, Forest}
-use Rattle.trie_theory.specs.Lists.{flat}
+use Rattle.buffer.specs.Lists.{flat}
 use Rattle.trie_theory.specs.Strings.{strip, remains}
 use Rattle.trie_theory.specs.Dimensions.{Above, below}
 use Rattle.trie_theory.specs.Position.{shared}

@@ -6,13 +6,13 @@ use mathlib.Core.List.{List, [], _∷_, map}
 use native.Mathlib.Omega.{arith}
 use lib.ListN.{length}
 use Rattle.trie_theory.specs.Forest.{Strings, Key, Forest, under, keys}
-use Rattle.trie_theory.specs.Lists.{All, nil, cons, sum, flat}
+use Rattle.buffer.specs.Lists.{All, nil, cons, sum, flat}
 use Rattle.trie_theory.specs.Strings.{remains}
 use Rattle.trie_theory.specs.Dimensions.{Above, root, below}
 use Rattle.trie_theory.specs.Position.{shared}
 use Rattle.trie_theory.specs.Level.{choice, node, each, grow, trie, levelOf}
-use Rattle.trie_theory.proofs.Lists.{all-imp, all-every}
-use Rattle.trie_theory.proofs.Sums.{sum-append}
+use Rattle.buffer.proofs.Lists.{all-imp, all-every}
+use Rattle.buffer.proofs.Sums.{sum-append}
 use Rattle.trie_theory.proofs.Prefix.{Prefixes, From, shared-all, shared-greatest}
 use Rattle.trie_theory.proofs.Strings.{join-strip}
 use Rattle.trie_theory.proofs.Keys.{under-remains}

@@ -10,7 +10,7 @@ use lib.ListN.{length}
 use lib.Dec.{ltb}
 use borrow.Author.Tests.{lt-ltb}
 use Rattle.trie_theory.specs.Forest.{Strings, Key, Forest, tops}
-use Rattle.trie_theory.specs.Lists.{All, nil, cons}
+use Rattle.buffer.specs.Lists.{All, nil, cons}
 use Rattle.trie_theory.specs.Strings.{strip, remains, first}
 use Rattle.trie_theory.specs.Dimensions.{Above, root, below, branching}
 use Rattle.trie_theory.specs.Position.{shared}
@@ -18,7 +18,7 @@ use Rattle.trie_theory.specs.Parts.{parts}
 use Rattle.trie_theory.specs.Level.{choice, node, each, grow, trie, levelOf}
 use Rattle.trie_theory.specs.SmallTrie.{ahead}
 use Rattle.trie_theory.specs.Sound.{Starts, Wide, Node, Sound, Ascending}
-use Rattle.trie_theory.proofs.Lists.{all-imp, all-both, all-map, all-test}
+use Rattle.buffer.proofs.Lists.{all-imp, all-both, all-map, all-test}
 use Rattle.trie_theory.proofs.Prefix.{From, shared-all}
 use Rattle.trie_theory.proofs.Strings.{length-strip, length-shared, first-some}
 use Rattle.trie_theory.proofs.Round.{not-some}

@@ -10,13 +10,13 @@ use lib.ListN.{length}
 use lib.Dec.{ltb}
 use borrow.Author.Tests.{ltb-true, lt-ltb, le-ltb}
 use Rattle.trie_theory.specs.Forest.{Strings, Key, Forest, leaf, inner}
-use Rattle.trie_theory.specs.Lists.{All, nil, cons}
+use Rattle.buffer.specs.Lists.{All, nil, cons}
 use Rattle.trie_theory.specs.Strings.{strip}
 use Rattle.trie_theory.specs.Dimensions.{Above, below, wanted, turn}
 use Rattle.trie_theory.specs.Position.{shared, differ}
 use Rattle.trie_theory.specs.Parts.{parts}
 use Rattle.trie_theory.specs.Level.{choice, node, each, grow, trie}
-use Rattle.trie_theory.proofs.Lists.{all-imp}
+use Rattle.buffer.proofs.Lists.{all-imp}
 use Rattle.trie_theory.proofs.Round.{not-some, turn-passes, turn-none, turn-inside}
 use Rattle.trie_theory.proofs.Parts.{parts-short}
 

@@ -10,15 +10,16 @@ use lib.ListN.{length, getD, length-map}
 use lib.Dec.{eqb}
 use borrow.Author.Tests.{eqb-true, eqb-false, eq-eqb}
 use Rattle.trie_theory.specs.Forest.{Strings, Key, Forest, keys}
-use Rattle.trie_theory.specs.Lists.{All}
+use Rattle.buffer.specs.Lists.{All}
 use Rattle.trie_theory.specs.Strings.{goesOn, remains, at}
 use Rattle.trie_theory.specs.Dimensions.{Above, root, below}
 use Rattle.trie_theory.specs.Position.{shared, byte, position, differ}
 use Rattle.trie_theory.specs.Parts.{keep, filled, partsFrom, parts}
 use Rattle.trie_theory.specs.Level.{choice, node, each, grow, trie, levelOf}
 use Rattle.trie_theory.specs.Walk.{Step, stepAt, kindOf, follow, sequence, route, walk}
-use Rattle.trie_theory.proofs.Lists.{In, at-head, later, not-true, all-imp, all-head, all-in, all-pick, all-both, all-every, in-pick}
-use Rattle.trie_theory.proofs.Sums.{equal-length}
+use Rattle.buffer.proofs.Lists.{In, at-head, later, all-imp, all-head, all-in, all-pick, all-both, all-every, in-pick}
+use Rattle.buffer.proofs.Tests.{not-true}
+use Rattle.buffer.proofs.Sums.{equal-length}
 use Rattle.trie_theory.proofs.Prefix.{Prefixes, From, shared-all, shared-greatest, prefixes-goesOn, goesOn-prefixes, prefixes-trans}
 use Rattle.trie_theory.proofs.Strings.{join-strip}
 use Rattle.trie_theory.proofs.Parts.{differ-all, differ-inside, extend, extend-in, extend-out}

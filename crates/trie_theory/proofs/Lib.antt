@@ -1,6 +1,4 @@
 -- Lists, strings, dimensions
-pub mod Lists
-pub mod Sums
 pub mod Prefix
 pub mod Strings
 pub mod Round

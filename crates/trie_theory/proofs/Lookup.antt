@@ -8,14 +8,15 @@ use mathlib.Core.Logic.{_↔_}
 use lib.ListN.{length}
 use lib.Dec.{eqb}
 use Rattle.trie_theory.specs.Forest.{Strings, Key, Forest, none, leaf, inner, join, under, keys, tops}
-use Rattle.trie_theory.specs.Lists.{All, nil, cons, any, same}
+use Rattle.buffer.specs.Lists.{All, nil, cons, any, same}
 use Rattle.trie_theory.specs.Strings.{goesOn, remains}
 use Rattle.trie_theory.specs.Dimensions.{Above, below, branching}
 use Rattle.trie_theory.specs.SmallTrie.{meets}
 use Rattle.trie_theory.specs.Lookup.{sameKey, among, member}
 use Rattle.trie_theory.specs.Sound.{Node, Sound}
-use Rattle.trie_theory.proofs.Lists.{In, and-left, and-right, and-both, bool-ext, all-head, all-tail, all-imp, any-append}
-use Rattle.trie_theory.proofs.Lists.{any-in, in-any, bytes-true, bytes-refl, strings-true, strings-refl}
+use Rattle.buffer.proofs.Lists.{In, all-head, all-tail, all-imp, any-append}
+use Rattle.buffer.proofs.Tests.{and-left, and-right, and-both, bool-ext}
+use Rattle.buffer.proofs.Lists.{any-in, in-any, bytes-true, bytes-refl, strings-true, strings-refl}
 use Rattle.trie_theory.proofs.Prefix.{prefixes-goesOn, goesOn-prefixes, prefixes-join}
 use Rattle.trie_theory.proofs.Strings.{strip-join}
 use Rattle.trie_theory.proofs.Branching.{branching-prefix, meets-true, meets-false, meets-apart}

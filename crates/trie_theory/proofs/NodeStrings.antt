@@ -6,11 +6,11 @@ use mathlib.Core.List.{List, [], _∷_, _++_, map}
 use native.Mathlib.Omega.{arith}
 use lib.ListN.{length, length-append}
 use Rattle.trie_theory.specs.Forest.{Strings, Key, Forest, none, leaf, inner, join, under, keys, tops}
-use Rattle.trie_theory.specs.Lists.{All, nil, cons}
+use Rattle.buffer.specs.Lists.{All, nil, cons}
 use Rattle.trie_theory.specs.Strings.{strip}
 use Rattle.trie_theory.specs.Dimensions.{Above, below}
 use Rattle.trie_theory.specs.Sound.{Sound}
-use Rattle.trie_theory.proofs.Lists.{all-head, all-tail, all-left, all-right, all-unmap}
+use Rattle.buffer.proofs.Lists.{all-head, all-tail, all-left, all-right, all-unmap}
 use Rattle.trie_theory.proofs.Prefix.{From}
 use Rattle.trie_theory.proofs.Strings.{join-strip}
 use Rattle.trie_theory.proofs.SoundLaws.{some-key}

@@ -9,12 +9,12 @@ use lib.ListN.{length, drop, replicate, length-append, length-replicate}
 use lib.Dec.{eqb, ltb}
 use borrow.Author.Tests.{eqb-true, eqb-false, eq-eqb, ne-eqb, ltb-true}
 use Rattle.trie_theory.specs.Forest.{Strings, Key}
-use Rattle.trie_theory.specs.Lists.{All, nil, cons, pick, sum, flat}
+use Rattle.buffer.specs.Lists.{All, nil, cons, pick, sum, flat}
 use Rattle.trie_theory.specs.Strings.{strip, first}
 use Rattle.trie_theory.specs.Position.{shared, byte, differ}
 use Rattle.trie_theory.specs.Parts.{keep, filled, partsFrom, parts}
-use Rattle.trie_theory.proofs.Lists.{all-imp, all-both, all-tested, all-pick}
-use Rattle.trie_theory.proofs.Sums.{sum-append, sum-pick, sum-equal, sum-zero, sum-none, equal-length}
+use Rattle.buffer.proofs.Lists.{all-imp, all-both, all-tested, all-pick}
+use Rattle.buffer.proofs.Sums.{sum-append, sum-pick, sum-equal, sum-zero, sum-none, equal-length}
 use Rattle.trie_theory.proofs.Prefix.{Prefix, Prefixes, From, shared-all, shared-greatest, length-prefixes}
 use Rattle.trie_theory.proofs.Strings.{length-strip, first-inside}
 

@@ -9,10 +9,11 @@ use lib.ListN.{length}
 use lib.Dec.{eqb}
 use borrow.Author.Tests.{eqb-true, eqb-false, eq-eqb}
 use Rattle.trie_theory.specs.Forest.{Strings, Key, join}
-use Rattle.trie_theory.specs.Lists.{All, nil, cons}
+use Rattle.buffer.specs.Lists.{All, nil, cons}
 use Rattle.trie_theory.specs.Strings.{begins, goesOn, common, commons, at}
 use Rattle.trie_theory.specs.Position.{narrow, shared}
-use Rattle.trie_theory.proofs.Lists.{and-left, and-right, and-both, all-imp, all-head, all-tail}
+use Rattle.buffer.proofs.Lists.{all-imp, all-head, all-tail}
+use Rattle.buffer.proofs.Tests.{and-left, and-right, and-both}
 
 -- s begins with p
 unfoldable pub Prefix : List ℕ → List ℕ → Type 0

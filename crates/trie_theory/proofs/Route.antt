@@ -9,13 +9,13 @@ use lib.ListN.{length}
 use lib.Dec.{eqb}
 use borrow.Author.Tests.{eqb-true}
 use Rattle.trie_theory.specs.Forest.{Key}
-use Rattle.trie_theory.specs.Lists.{All, nil, cons, pick}
+use Rattle.buffer.specs.Lists.{All, nil, cons, pick}
 use Rattle.trie_theory.specs.Dimensions.{Above, below}
 use Rattle.trie_theory.specs.Position.{shared, byte, differ}
 use Rattle.trie_theory.specs.Parts.{keep}
 use Rattle.trie_theory.specs.Level.{choice}
 use Rattle.trie_theory.specs.Walk.{Step, stepAt, kindOf, follow, sequence, route}
-use Rattle.trie_theory.proofs.Lists.{all-imp}
+use Rattle.buffer.proofs.Lists.{all-imp}
 use Rattle.trie_theory.proofs.Differ.{differ-apart}
 use Rattle.trie_theory.proofs.LevelStep.{choice-differ, choice-empty}
 

@@ -6,12 +6,13 @@ use mathlib.Core.Bool.{Bool, true, false, cond, true≢false}
 use mathlib.Core.List.{List, [], _∷_, _++_, map}
 use native.Mathlib.Omega.{arith}
 use Rattle.trie_theory.specs.Forest.{Strings, Key, Forest, none, leaf, inner, join, under, keys}
-use Rattle.trie_theory.specs.Lists.{All, nil, cons, pick}
+use Rattle.buffer.specs.Lists.{All, nil, cons, pick}
 use Rattle.trie_theory.specs.Strings.{goesOn}
 use Rattle.trie_theory.specs.Dimensions.{Above, root, below}
 use Rattle.trie_theory.specs.Search.{branch, enters, nodesEntered, found}
 use Rattle.trie_theory.specs.Size.{nodes}
-use Rattle.trie_theory.proofs.Lists.{pick-append, not-true}
+use Rattle.buffer.proofs.Lists.{pick-append}
+use Rattle.buffer.proofs.Tests.{not-true}
 use Rattle.trie_theory.proofs.Prefix.{Prefix, Prefixes, From, prefixes-goesOn, prefix-refl, prefixes-refl, prefixes-join}
 use Rattle.trie_theory.proofs.Prefix.{prefixes-trans, prefix-append}
 use Rattle.trie_theory.proofs.Keys.{from-under, all-keys}

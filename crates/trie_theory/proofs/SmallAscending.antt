@@ -6,14 +6,14 @@ use mathlib.Core.List.{[], _∷_, _++_, map}
 use native.Mathlib.Omega.{arith}
 use lib.Dec.{ltb}
 use borrow.Author.Tests.{ltb-true, ltb-false, lt-ltb}
-use Rattle.buffer.specs.Lists.{all}
+use Rattle.buffer.specs.Lists.{all, All}
 use Rattle.trie_theory.specs.Forest.{Strings, Key, Forest, none, leaf, inner, join, under, keys, tops}
-use Rattle.trie_theory.specs.Lists.{All}
 use Rattle.trie_theory.specs.Strings.{goesOn, commons, strip, remains, first}
 use Rattle.trie_theory.specs.Dimensions.{Above, below, branching}
 use Rattle.trie_theory.specs.SmallTrie.{meets, ahead, alone, two, differing, split, added}
 use Rattle.trie_theory.specs.Sound.{Starts, Wide, Node, Sound, Ascending}
-use Rattle.trie_theory.proofs.Lists.{and-both, all-left, all-right, all-imp, all-tested, all-test}
+use Rattle.buffer.proofs.Lists.{all-left, all-right, all-imp, all-tested, all-test}
+use Rattle.buffer.proofs.Tests.{and-both}
 use Rattle.trie_theory.proofs.Prefix.{From, goesOn-prefixes}
 use Rattle.trie_theory.proofs.Strings.{length-strip}
 use Rattle.trie_theory.proofs.Branching.{meets-false}

@@ -8,14 +8,14 @@ use native.Mathlib.Omega.{arith}
 use lib.ListN.{length}
 use lib.Dec.{ltb}
 use Rattle.trie_theory.specs.Forest.{Strings, Key, Forest, none, leaf, inner, join, under, keys}
-use Rattle.trie_theory.specs.Lists.{All, nil, cons, sum}
+use Rattle.buffer.specs.Lists.{All, nil, cons, sum}
 use Rattle.trie_theory.specs.Strings.{goesOn, commons, strip, remains, at, first, total}
 use Rattle.trie_theory.specs.Dimensions.{Above, root, below}
 use Rattle.trie_theory.specs.SmallTrie.{alone, two, differing, split, added, grown, smallTrie}
 use Rattle.trie_theory.specs.Sound.{Starts, Sound, Ascending, Bare}
 use Rattle.trie_theory.specs.Entries.{complete, Stops, Small}
-use Rattle.trie_theory.proofs.Lists.{all-head, all-append, all-left, all-right, all-unmap, all-imp}
-use Rattle.trie_theory.proofs.Sums.{equal-all}
+use Rattle.buffer.proofs.Lists.{all-head, all-append, all-left, all-right, all-unmap, all-imp}
+use Rattle.buffer.proofs.Sums.{equal-all}
 use Rattle.trie_theory.proofs.Prefix.{From, goesOn-prefixes, prefixes-refl}
 use Rattle.trie_theory.proofs.Strings.{at-join, at-total, total-strip}
 use Rattle.trie_theory.proofs.Keys.{keys-from}

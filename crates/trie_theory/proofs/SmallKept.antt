@@ -7,13 +7,13 @@ use mathlib.Core.List.{List, [], _∷_, _++_, map}
 use native.Mathlib.Omega.{arith}
 use lib.Dec.{ltb}
 use Rattle.trie_theory.specs.Forest.{Strings, Key, Forest, none, leaf, inner, join, under, keys}
-use Rattle.trie_theory.specs.Lists.{sum}
+use Rattle.buffer.specs.Lists.{sum}
 use Rattle.trie_theory.specs.Strings.{goesOn, commons, strip, remains, first, total}
 use Rattle.trie_theory.specs.Dimensions.{Above, root, below}
 use Rattle.trie_theory.specs.SmallTrie.{alone, two, differing, split, outcome, added, grown, smallTrie}
 use Rattle.trie_theory.specs.Size.{cost, growth}
-use Rattle.trie_theory.proofs.Lists.{map-append}
-use Rattle.trie_theory.proofs.Sums.{sum-append}
+use Rattle.buffer.proofs.Lists.{map-append}
+use Rattle.buffer.proofs.Sums.{sum-append}
 use Rattle.trie_theory.proofs.Prefix.{goesOn-prefixes, prefixes-refl, commons-left, commons-right}
 use Rattle.trie_theory.proofs.Strings.{join-assoc, join-strip, total-strip}
 use Rattle.trie_theory.proofs.Keys.{under-known}

@@ -9,12 +9,12 @@ use lib.ListN.{length, length-append}
 use lib.Dec.{ltb}
 use borrow.Author.Tests.{ltb-true}
 use Rattle.trie_theory.specs.Forest.{Strings, Key, Forest, none, leaf, inner, join, under, keys, tops}
-use Rattle.trie_theory.specs.Lists.{All, nil, cons}
+use Rattle.buffer.specs.Lists.{All, nil, cons}
 use Rattle.trie_theory.specs.Strings.{goesOn, commons, strip, remains, first}
 use Rattle.trie_theory.specs.Dimensions.{Above, below, branching}
 use Rattle.trie_theory.specs.SmallTrie.{meets, ahead, alone, two, differing, split, added}
 use Rattle.trie_theory.specs.Sound.{Starts, Wide, Node, Sound}
-use Rattle.trie_theory.proofs.Lists.{all-append, all-left, all-right, all-unmap, all-imp, all-tested}
+use Rattle.buffer.proofs.Lists.{all-append, all-left, all-right, all-unmap, all-imp, all-tested}
 use Rattle.trie_theory.proofs.Prefix.{From, goesOn-prefixes, commons-left}
 use Rattle.trie_theory.proofs.Strings.{length-strip, length-commons}
 use Rattle.trie_theory.proofs.Branching.{branching-prefix, meets-false}

@@ -6,13 +6,13 @@ use mathlib.Core.List.{List, [], _∷_, map}
 use native.Mathlib.Omega.{arith}
 use lib.ListN.{length, getD, length-append, length-map}
 use Rattle.trie_theory.specs.Forest.{Strings, Key, Forest, none, leaf, inner, join, under, keys, tops}
-use Rattle.trie_theory.specs.Lists.{All, nil, sum}
+use Rattle.buffer.specs.Lists.{All, nil, sum}
 use Rattle.trie_theory.specs.Strings.{strip, total}
 use Rattle.trie_theory.specs.Dimensions.{Above, root, below, branching}
 use Rattle.trie_theory.specs.Sound.{Starts, Wide, Node, Sound}
 use Rattle.trie_theory.specs.Size.{cost, nodes, height}
-use Rattle.trie_theory.proofs.Lists.{all-append, all-left, all-right, all-map, all-head, all-every, all-imp}
-use Rattle.trie_theory.proofs.Sums.{sum-append, sum-map, sum-more, sum-most}
+use Rattle.buffer.proofs.Lists.{all-append, all-left, all-right, all-map, all-head, all-every, all-imp}
+use Rattle.buffer.proofs.Sums.{sum-append, sum-map, sum-more, sum-most}
 use Rattle.trie_theory.proofs.Prefix.{From, prefixes-join, prefixes-trans}
 use Rattle.trie_theory.proofs.Strings.{length-join, total-join, total-strip, total-strip-strip, some-total}
 use Rattle.trie_theory.proofs.Keys.{all-keys, keys-from}

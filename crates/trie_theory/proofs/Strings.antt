@@ -5,10 +5,10 @@ use mathlib.Core.List.{List, [], _∷_, _++_, append-assoc, append-nil}
 use native.Mathlib.Omega.{arith}
 use lib.ListN.{length, drop, length-append}
 use Rattle.trie_theory.specs.Forest.{Strings, Key, join}
-use Rattle.trie_theory.specs.Lists.{All, nil, cons}
+use Rattle.buffer.specs.Lists.{All, nil, cons}
 use Rattle.trie_theory.specs.Strings.{commons, strip, at, first, total}
 use Rattle.trie_theory.specs.Position.{narrow, shared}
-use Rattle.trie_theory.proofs.Lists.{all-head, all-tail}
+use Rattle.buffer.proofs.Lists.{all-head, all-tail}
 use Rattle.trie_theory.proofs.Prefix.{Prefix, Prefixes, prefixes-trans}
 
 pub join-assoc : (a b c : Strings) → join (join a b) c ≡ join a (join b c)

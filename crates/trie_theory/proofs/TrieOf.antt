@@ -9,7 +9,7 @@ use lib.ListN.{length}
 use lib.Dec.{eqb, leb}
 use borrow.Author.Tests.{eqb-true, eq-eqb, leb-true, le-leb}
 use Rattle.trie_theory.specs.Forest.{Key, Forest, keys}
-use Rattle.trie_theory.specs.Lists.{All, sum, count}
+use Rattle.buffer.specs.Lists.{All, sum, count}
 use Rattle.trie_theory.specs.Strings.{total}
 use Rattle.trie_theory.specs.Dimensions.{root}
 use Rattle.trie_theory.specs.Level.{levelOf}
@@ -20,12 +20,13 @@ use Rattle.trie_theory.specs.Encode.{encode}
 use Rattle.trie_theory.specs.Size.{height}
 use Rattle.trie_theory.specs.Entries.{complete, Stops, dims, Entry}
 use Rattle.trie_theory.specs.TrieOf.{TrieOf}
-use Rattle.trie_theory.proofs.Lists.{all-imp}
-use Rattle.trie_theory.proofs.Sums.{equal-length, equal-picked, equal-all, equal-any}
+use Rattle.buffer.proofs.Lists.{all-imp}
+use Rattle.buffer.proofs.Sums.{equal-length, equal-picked, equal-all, equal-any}
 use Rattle.trie_theory.proofs.Search.{found-all}
 use Rattle.trie_theory.proofs.SoundLaws.{nodes-known, height-bound, cost-bound}
 use Rattle.trie_theory.proofs.Lookup.{member-among}
-use Rattle.trie_theory.proofs.Encode.{Twenty, sound-regular, length-encode}
+use Rattle.trie_theory.specs.Encode.{Twenty}
+use Rattle.trie_theory.proofs.Encode.{sound-regular, length-encode}
 use Rattle.trie_theory.proofs.LevelKept.{level-sum}
 use Rattle.trie_theory.proofs.LevelSound.{level-well}
 use Rattle.trie_theory.proofs.Complete.{dims-stop, entry-total, entry-wide}

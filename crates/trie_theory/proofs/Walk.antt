@@ -6,11 +6,11 @@ use mathlib.Core.List.{[], _∷_, map}
 use native.Mathlib.Omega.{arith}
 use lib.ListN.{length}
 use Rattle.trie_theory.specs.Forest.{Strings, Key, Forest, none, leaf, inner, join, keys}
-use Rattle.trie_theory.specs.Lists.{All, nil, cons}
+use Rattle.buffer.specs.Lists.{All, nil, cons}
 use Rattle.trie_theory.specs.Strings.{goesOn}
 use Rattle.trie_theory.specs.Walk.{Step, stepAt, walk}
 use Rattle.trie_theory.specs.Size.{height}
-use Rattle.trie_theory.proofs.Lists.{all-head, all-tail}
+use Rattle.buffer.proofs.Lists.{all-head, all-tail}
 use Rattle.trie_theory.proofs.Prefix.{Prefixes, prefix-length, goesOn-prefixes}
 
 -- NO MORE NODES THAN THE TRIE IS HIGH

@@ -1,7 +1,7 @@
 -- What is unfolded to compute tries of given keys: whoever unfolds one of these names unfolds all that stands on its line.
 use Prim.Native.Nat.{ℕ}
 use Rattle.trie_theory.specs.Forest.{join, under, keys, tops}
-use Rattle.trie_theory.specs.Lists.{any, pick, flat, same}
+use Rattle.buffer.specs.Lists.{any, pick, flat, same}
 use Rattle.trie_theory.specs.Strings.{begins, goesOn, common, commons, strip, remains, first}
 use Rattle.trie_theory.specs.Dimensions.{next, wanted, seek, turn, branching}
 use Rattle.trie_theory.specs.Position.{narrow, shared, position, byte, differ}
@@ -10,7 +10,8 @@ use Rattle.trie_theory.specs.Level.{choice, node, each, grow, trie, leve
 use Rattle.trie_theory.specs.SmallTrie.{meets, ahead, alone, two, chosen, differing, split, outcome, added, grown, smallTrie}
 use Rattle.trie_theory.specs.Lookup.{sameKey, among, member}
 use Rattle.trie_theory.specs.Search.{branch, enters, nodesEntered, found}
-use Rattle.trie_theory.specs.Encode.{suffixBytes, four, nodeBytes, encode}
+use Rattle.trie_theory.specs.Encode.{suffixBytes, nodeBytes, encode}
+use Rattle.buffer.specs.Numbers.{bytesOf}
 use Rattle.trie_theory.specs.Walk.{stepAt, walk}
 
 unfoldable pub of-strings : ℕ
@@ -30,5 +31,5 @@ unfolding of-a-small-trie sameKey among member branch enters nodesEntered found
 of-a-search = 0
 
 unfoldable pub of-bytes : ℕ
-unfolding of-a-small-trie flat suffixBytes four nodeBytes encode
+unfolding of-a-small-trie flat suffixBytes bytesOf nodeBytes encode
 of-bytes = 0

@@ -6,7 +6,7 @@ use mathlib.Core.List.{List, [], _∷_, _++_}
 use lib.ListN.{length}
 use lib.Dec.{eqb}
 use Rattle.trie_theory.specs.Forest.{Strings, Key, Forest, keys}
-use Rattle.trie_theory.specs.Lists.{All}
+use Rattle.buffer.specs.Lists.{All}
 use Rattle.trie_theory.specs.Strings.{at}
 use Rattle.trie_theory.specs.Dimensions.{root}
 use Rattle.trie_theory.specs.Sound.{Sound, Bare}

@@ -1,6 +1,5 @@
 -- Keys, strings, dimensions
 pub mod Forest
-pub mod Lists
 pub mod Strings
 pub mod Dimensions
 -- Levels

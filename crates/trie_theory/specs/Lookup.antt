@@ -3,7 +3,7 @@ use mathlib.Core.Bool.{Bool, false, cond, _&&_}
 use mathlib.Core.List.{List}
 use lib.Dec.{eqb}
 use Rattle.trie_theory.specs.Forest.{Key, Forest, none, leaf, inner}
-use Rattle.trie_theory.specs.Lists.{any, same}
+use Rattle.buffer.specs.Lists.{any, same}
 use Rattle.trie_theory.specs.Strings.{goesOn, remains}
 use Rattle.trie_theory.specs.Dimensions.{Above, below}
 use Rattle.trie_theory.specs.SmallTrie.{meets}

@@ -3,7 +3,7 @@ use Prim.Native.Nat.{ℕ, zero, suc}
 use mathlib.Core.List.{List, [], _∷_}
 use lib.Dec.{eqb}
 use Rattle.trie_theory.specs.Forest.{Strings, Key}
-use Rattle.trie_theory.specs.Lists.{pick}
+use Rattle.buffer.specs.Lists.{pick}
 use Rattle.trie_theory.specs.Position.{shared, byte}
 
 -- the keys with byte b behind the bytes p in dimension d, in their sequence

@@ -4,7 +4,7 @@ use Prim.Native.Nat.{ℕ, zero, suc, _+_}
 use mathlib.Core.Bool.{Bool, true, cond}
 use mathlib.Core.List.{List, [], _∷_, _++_, map}
 use Rattle.trie_theory.specs.Forest.{Strings, Key, Forest, none, leaf, inner, join, under}
-use Rattle.trie_theory.specs.Lists.{pick}
+use Rattle.buffer.specs.Lists.{pick}
 use Rattle.trie_theory.specs.Dimensions.{Above, root, below}
 
 -- the known bytes k with the first byte of s added in dimension d

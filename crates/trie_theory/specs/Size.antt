@@ -1,7 +1,7 @@
 -- How large tries are: bytes, nodes, nodes one below the other, and the bytes that an addition adds.
 use Prim.Native.Nat.{ℕ, suc, _+_, max}
 use Rattle.trie_theory.specs.Forest.{Key, Forest, none, leaf, inner}
-use Rattle.trie_theory.specs.Lists.{sum}
+use Rattle.buffer.specs.Lists.{sum}
 use Rattle.trie_theory.specs.Strings.{commons, strip, remains, total}
 use Rattle.trie_theory.specs.Dimensions.{Above, below}
 use Rattle.trie_theory.specs.SmallTrie.{outcome}

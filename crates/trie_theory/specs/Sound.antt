@@ -6,7 +6,7 @@ use mathlib.Core.Bool.{true}
 use mathlib.Core.List.{[]}
 use lib.ListN.{length}
 use Rattle.trie_theory.specs.Forest.{Strings, Key, Forest, none, leaf, inner, tops}
-use Rattle.trie_theory.specs.Lists.{All}
+use Rattle.buffer.specs.Lists.{All}
 use Rattle.trie_theory.specs.Strings.{at, total}
 use Rattle.trie_theory.specs.Dimensions.{Above, root, below, branching}
 use Rattle.trie_theory.specs.SmallTrie.{ahead}

@@ -8,7 +8,7 @@ use lib.Dec.{eqb}
 use Rattle.trie_theory.specs.Forest.{Strings, Key, Forest, none, leaf, inner}
 use Rattle.trie_theory.specs.Dimensions.{root}
 use Rattle.trie_theory.specs.SmallTrie.{smallTrie}
-use Rattle.trie_theory.specs.Lists.{any, same}
+use Rattle.buffer.specs.Lists.{any, same}
 use Rattle.trie_theory.specs.Strings.{begins, at}
 use Rattle.trie_theory.specs.Lookup.{sameKey, member}
 use Rattle.trie_theory.specs.Search.{found, nodesEntered}

@@ -9,8 +9,8 @@ use native.Mathlib.Omega.{arith}
 use lib.ListN.{length}
 use lib.Dec.{ltb}
 use borrow.Author.Tests.{lt-ltb}
-use Rattle.trie_theory.specs.Lists.{All, nil, cons, any, pick, sum}
-use Rattle.trie_theory.proofs.Lists.{all-imp}
+use Rattle.buffer.specs.Lists.{All, nil, cons, any, pick, sum}
+use Rattle.buffer.proofs.Lists.{all-imp}
 
 module _ {A : Type 0} (h : A → ℕ) where
   pub sum-append : (xs ys : List A) → sum h (xs ++ ys) ≡ sum h xs + sum h ys

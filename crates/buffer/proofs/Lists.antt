@@ -1,36 +1,12 @@
 -- Laws of small words about lists: what holds of every element, what some element passes, what is picked, equal lists.
 use Prim.Native.Nat.{ℕ}
+use Rattle.buffer.proofs.Tests.{and-left, and-right, and-both, bool-ext, not-true}
 use mathlib.Core.Path.{_≡_, refl, sym, ap, ap₂, _∙_}
 use mathlib.Core.Bool.{Bool, true, false, cond, _&&_, _||_, false≢true}
 use mathlib.Core.List.{List, [], _∷_, _++_, map}
 use lib.Dec.{eqb}
 use borrow.Author.Tests.{eqb-true, eq-eqb}
-use Rattle.buffer.specs.Lists.{all}
-use Rattle.trie_theory.specs.Forest.{Strings}
-use Rattle.trie_theory.specs.Lists.{All, nil, cons, any, pick, same}
-
--- tests
-pub and-left : (a b : Bool) → a && b ≡ true → a ≡ true
-and-left true b e = refl
-and-left false b e = e
-
-pub and-right : (a b : Bool) → a && b ≡ true → b ≡ true
-and-right true b e = e
-and-right false b e = absurd (false≢true e)
-
-pub and-both : {a b : Bool} → a ≡ true → b ≡ true → a && b ≡ true
-and-both {a} {b} p q = rw (p, q)
-
--- tests that imply each other are equal
-pub bool-ext : (a b : Bool) → (a ≡ true → b ≡ true) → (b ≡ true → a ≡ true) → a ≡ b
-bool-ext true b f g = sym (f refl)
-bool-ext false true f g = g refl
-bool-ext false false f g = refl
-
--- a test that cannot pass
-pub not-true : (a : Bool) → (a ≡ true → ⊥) → a ≡ false
-not-true true h = absurd (h refl)
-not-true false h = refl
+use Rattle.buffer.specs.Lists.{all, All, nil, cons, any, pick, same}
 
 pub all-head : {A : Type 0} {P : A → Type 0} {x : A} {xs : List A} → All P (x ∷ xs) → P x
 all-head (cons h a) = h
@@ -175,8 +151,8 @@ bytes-true a b = same-true eqb eqb-true a b
 pub bytes-refl : (a : List ℕ) → same eqb a a ≡ true
 bytes-refl a = same-refl eqb (λ x. eq-eqb x x refl) a
 
-pub strings-true : (a b : Strings) → same (same eqb) a b ≡ true → a ≡ b
+pub strings-true : (a b : List (List ℕ)) → same (same eqb) a b ≡ true → a ≡ b
 strings-true a b = same-true (same eqb) bytes-true a b
 
-pub strings-refl : (a : Strings) → same (same eqb) a a ≡ true
+pub strings-refl : (a : List (List ℕ)) → same (same eqb) a a ≡ true
 strings-refl a = same-refl (same eqb) bytes-refl a
