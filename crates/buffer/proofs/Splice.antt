@@ -228,3 +228,8 @@ splice-whole s b h =
 -- one element moved
 pub set-region : (s : List ℕ) (i j : ℕ) → i < length s → j < length s → set s i (getD s j 0) ≡ splice s i (region s j 1)
 set-region s i j h k = rw (set-splice s i (getD s j 0) h, region-cons s j 0 k)
+
+-- a write after others, all side by side
+pub splice-then : (s s₀ : List ℕ) (o : ℕ) (b : List ℕ) (p : ℕ) (a : List ℕ) → s ≡ splice s₀ o b → p ≡ o + length b → o + length b ≤ length s₀
+    → splice s p a ≡ splice s₀ o (b ++ a)
+splice-then s s₀ o b p a e q h = rw (e, q) (splice-next s₀ o b h a)

@@ -56,8 +56,14 @@ swap-turn s s₀ a b w k e h1 h2 h3 =
     rw e (set-before u b (region s₀ a k) (a + k) (getD s₀ (b + k) 0) (omega arith) (omega arith) ∙ rw e1) in
     rw (va, vb) (grow _ (splice s₀ a (region s₀ b (k + 1))) b k _ _ _ e2 la (omega arith) (sym (region-snoc s₀ a k (omega arith))))
 
--- four elements, one by one
+-- two, three and four elements, one by one
+pub set-2 : (s : List ℕ) (o a b : ℕ) → o + 2 ≤ length s → set (set s o a) (o + 1) b ≡ splice s o (a ∷ b ∷ [])
+set-2 s o a b h = rw (set-splice s o a (omega arith), splice-snoc s o (a ∷ []) b (omega arith))
+
+pub set-3 : (s : List ℕ) (o a b c : ℕ) → o + 3 ≤ length s → set (set (set s o a) (o + 1) b) (o + 2) c ≡ splice s o (a ∷ b ∷ c ∷ [])
+set-3 s o a b c h = rw (set-2 s o a b (omega arith), splice-snoc s o (a ∷ b ∷ []) c (omega arith))
+
 pub set-4 : (s : List ℕ) (o a b c d : ℕ) → o + 4 ≤ length s
     → set (set (set (set s o a) (o + 1) b) (o + 2) c) (o + 3) d ≡ splice s o (a ∷ b ∷ c ∷ d ∷ [])
 set-4 s o a b c d h =
-    rw (set-splice s o a (omega arith), splice-snoc s o (a ∷ []) b (omega arith), splice-snoc s o (a ∷ b ∷ []) c (omega arith), splice-snoc s o (a ∷ b ∷ c ∷ []) d (omega arith))
+    rw (set-3 s o a b c (omega arith), splice-snoc s o (a ∷ b ∷ c ∷ []) d (omega arith))

@@ -1,0 +1,97 @@
+-- Comparing strings byte by byte: what is left to compare after i equal bytes. Assumes nothing.
+use mathlib.Core.Path.{_≡_, refl, sym, ap, _∙_}
+use mathlib.Core.Bool.{Bool, true, false, _&&_}
+use Prim.Native.Nat.{ℕ, zero, suc, _+_, _≤_, _<_}
+use mathlib.Core.List.{List, [], _∷_}
+use native.Mathlib.Omega.{arith}
+use native.Mathlib.Numerals.{add-one}
+use lib.ListN.{length, getD, drop}
+use lib.Seq.{drop-cons, drop-length}
+use lib.Dec.{eqb}
+use borrow.Author.Tests.{eq-eqb, ne-eqb}
+use Rattle.buffer.proofs.Tests.{and-right}
+use Rattle.buffer.specs.Lists.{same}
+use Rattle.trie_theory.specs.Strings.{begins, first}
+use Rattle.trie_theory.specs.Dimensions.{branching}
+use Rattle.trie_theory.proofs.Strings.{first-at}
+use Rattle.trie.specs.Shape.{aboveOf}
+
+begins-cons : (a b : ℕ) (p s : List ℕ) → begins (a ∷ p) (b ∷ s) ≡ eqb a b && begins p s
+unfolding begins
+begins-cons a b p s = refl
+
+pub begins-short : (p s : List ℕ) → length s < length p → begins p s ≡ false
+unfolding begins
+begins-short [] s h = absurd (omega arith)
+begins-short (a ∷ p) [] h = refl
+begins-short (a ∷ p) (b ∷ s) h = go (eqb a b) (begins-short p s (omega arith))
+  where
+    go : (t : Bool) → begins p s ≡ false → t && begins p s ≡ false
+    go true e = e
+    go false e = refl
+
+pub begins-length : (p s : List ℕ) → begins p s ≡ true → length p ≤ length s
+unfolding begins
+begins-length [] s e = omega arith
+begins-length (a ∷ p) [] e = absurd (let z : _≡_ {A = Bool} false true = e in let y : _≡_ {A = ℕ} 0 1 = cc in omega arith)
+begins-length (a ∷ p) (b ∷ s) e = let h = begins-length p s (and-right (eqb a b) (begins p s) e) in omega arith
+
+pub begins-all : (p s : List ℕ) (i : ℕ) → length p ≤ i → i ≤ length p → begins (drop i p) (drop i s) ≡ true
+unfolding begins
+begins-all p s i h k = let e : i ≡ length p = omega arith in rw (e, drop-length p)
+
+module _ (p s : List ℕ) (i : ℕ) (inp : i < length p) (ins : i < length s) where
+  pub begins-on : getD p i 0 ≡ getD s i 0 → begins (drop i p) (drop i s) ≡ begins (drop (i + 1) p) (drop (i + 1) s)
+  begins-on e = rw (add-one, drop-cons p i 0 inp, drop-cons s i 0 ins, begins-cons, eq-eqb (getD p i 0) (getD s i 0) e)
+
+  pub begins-off : (getD p i 0 ≡ getD s i 0 → ⊥) → begins (drop i p) (drop i s) ≡ false
+  begins-off n = rw (drop-cons p i 0 inp, drop-cons s i 0 ins, begins-cons, ne-eqb (getD p i 0) (getD s i 0) n)
+
+-- strings of one length are the same where one begins with the other
+pub same-begins : (a b : List ℕ) → length a ≡ length b → same eqb a b ≡ begins a b
+unfolding same begins
+same-begins [] [] h = refl
+same-begins [] (y ∷ b) h = absurd (omega arith)
+same-begins (x ∷ a) [] h = absurd (omega arith)
+same-begins (x ∷ a) (y ∷ b) h = ap (λ (t : Bool). eqb x y && t) (same-begins a b (omega arith))
+
+pub same-longer : (a b : List ℕ) → (length a ≡ length b → ⊥) → same eqb a b ≡ false
+unfolding same
+same-longer [] [] h = absurd (h refl)
+same-longer [] (y ∷ b) h = refl
+same-longer (x ∷ a) [] h = refl
+same-longer (x ∷ a) (y ∷ b) h = go (eqb x y) (same-longer a b (λ e. h (ap suc e)))
+  where
+    go : (t : Bool) → same eqb a b ≡ false → t && same eqb a b ≡ false
+    go true e = e
+    go false e = refl
+
+-- the first byte of a string
+pub first-none : (s : List ℕ) → length s ≡ 0 → first 0 (s ∷ []) ≡ 256
+unfolding first
+first-none [] h = refl
+first-none (b ∷ s) h = absurd (omega arith)
+
+pub first-some : (s : List ℕ) → (length s ≡ 0 → ⊥) → first 0 (s ∷ []) ≡ getD s 0 0
+unfolding first
+first-some [] h = absurd (h refl)
+first-some (b ∷ s) h = refl
+
+-- ---- the branching byte
+
+module _ (v p : List ℕ) where
+  pub branch-value : (above : ℕ) → above ≡ 1 → branching (aboveOf above) (v ∷ p ∷ []) ≡ first 0 (v ∷ [])
+  unfolding branching
+  branch-value above e = rw e (first-at 0 (v ∷ p ∷ []))
+
+  pub branch-path : (above : ℕ) → above ≡ 2 → branching (aboveOf above) (v ∷ p ∷ []) ≡ first 0 (p ∷ [])
+  unfolding branching
+  branch-path above e = rw e (first-at 1 (v ∷ p ∷ []))
+
+  -- at the root; and there are no other dimensions
+  pub branch-none : (above : ℕ) → (above ≡ 1 → ⊥) → (above ≡ 2 → ⊥) → branching (aboveOf above) (v ∷ p ∷ []) ≡ 256
+  unfolding branching first
+  branch-none zero a b = refl
+  branch-none (suc zero) a b = absurd (a refl)
+  branch-none (suc (suc zero)) a b = absurd (b refl)
+  branch-none (suc (suc (suc d))) a b = refl

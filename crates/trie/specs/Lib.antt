@@ -1,0 +1,4 @@
+pub mod Shape
+pub mod Heads
+pub mod Suffixes
+pub mod Places
