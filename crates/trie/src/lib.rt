@@ -2,6 +2,7 @@
 //
 //   kind (1 V, 2 path, 0 leaf) | v | p | body length, 4 bytes | v value bytes | p path bytes | body
 pub mod head;
+pub mod insert;
 pub mod lookup;
 pub mod place;
 pub mod strings;
