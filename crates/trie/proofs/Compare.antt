@@ -1,17 +1,17 @@
 -- Comparing strings byte by byte: what is left to compare after i equal bytes. Assumes nothing.
 use mathlib.Core.Path.{_≡_, refl, sym, ap, _∙_}
-use mathlib.Core.Bool.{Bool, true, false, _&&_}
+use mathlib.Core.Bool.{Bool, true, false, cond, _&&_}
 use Prim.Native.Nat.{ℕ, zero, suc, _+_, _≤_, _<_}
 use mathlib.Core.List.{List, [], _∷_}
 use native.Mathlib.Omega.{arith}
 use native.Mathlib.Numerals.{add-one}
-use lib.ListN.{length, getD, drop}
+use lib.ListN.{length, getD, drop, drop-of-length-le}
 use lib.Seq.{drop-cons, drop-length}
 use lib.Dec.{eqb}
 use borrow.Author.Tests.{eq-eqb, ne-eqb}
 use Rattle.buffer.proofs.Tests.{and-right}
 use Rattle.buffer.specs.Lists.{same}
-use Rattle.trie_theory.specs.Strings.{begins, first}
+use Rattle.trie_theory.specs.Strings.{begins, common, first}
 use Rattle.trie_theory.specs.Dimensions.{branching}
 use Rattle.trie_theory.proofs.Strings.{first-at}
 use Rattle.trie.specs.Shape.{aboveOf}
@@ -65,6 +65,31 @@ same-longer (x ∷ a) (y ∷ b) h = go (eqb x y) (same-longer a b (λ e. h (ap s
     go : (t : Bool) → same eqb a b ≡ false → t && same eqb a b ≡ false
     go true e = e
     go false e = refl
+
+-- ---- what two strings have in common, after i equal bytes
+
+common-cons : (a b : ℕ) (s t : List ℕ) → common (a ∷ s) (b ∷ t) ≡ cond (eqb a b) (a ∷ common s t) []
+unfolding common
+common-cons a b s t = refl
+
+pub common-none : (s t : List ℕ) (i : ℕ) → length s ≤ i → length (common (drop i s) (drop i t)) ≡ 0
+unfolding common
+common-none s t i h = rw (drop-of-length-le s h)
+
+pub common-short : (s t : List ℕ) (i : ℕ) → length t ≤ i → length (common (drop i s) (drop i t)) ≡ 0
+unfolding common
+common-short s t i h = rw (drop-of-length-le t h) (nothing (drop i s))
+  where
+    nothing : (u : List ℕ) → length (common u []) ≡ 0
+    nothing [] = refl
+    nothing (x ∷ u) = refl
+
+module _ (s t : List ℕ) (i : ℕ) (ins : i < length s) (int : i < length t) where
+  pub common-on : getD s i 0 ≡ getD t i 0 → length (common (drop i s) (drop i t)) ≡ suc (length (common (drop (i + 1) s) (drop (i + 1) t)))
+  common-on e = rw (add-one i, drop-cons s i 0 ins, drop-cons t i 0 int, common-cons, eq-eqb (getD s i 0) (getD t i 0) e)
+
+  pub common-off : (getD s i 0 ≡ getD t i 0 → ⊥) → length (common (drop i s) (drop i t)) ≡ 0
+  common-off n = rw (drop-cons s i 0 ins, drop-cons t i 0 int, common-cons, ne-eqb (getD s i 0) (getD t i 0) n)
 
 -- the first byte of a string
 pub first-none : (s : List ℕ) → length s ≡ 0 → first 0 (s ∷ []) ≡ 256

@@ -4,7 +4,7 @@ ghost use Prim.Native.Nat.{_≤_};
 ghost use lib.ListN.{length};
 ghost use lib.Dec.{eqb};
 ghost use Rattle.buffer.specs.Lists.{same};
-ghost use Rattle.trie_theory.specs.Strings.{begins, first};
+ghost use Rattle.trie_theory.specs.Strings.{begins, common, first};
 ghost use Rattle.trie_theory.specs.Dimensions.{branching};
 ghost use Rattle.trie.specs.Shape.{aboveOf};
 ghost use mathlib.Core.List.{[], _∷_};
@@ -34,6 +34,23 @@ pub fn equal(a: &[u8], b: &[u8]) -> bool
         return false;
     }
     begins(a, b)
+}
+
+// How many bytes both begin with.
+pub fn common_length(a: &[u8], b: &[u8]) -> usize
+    ensures { λ r. ⌜ (r ≡ length (common (now (a .entry)) (now (b .entry)))) × (r ≤ length (now (a .entry))) × (r ≤ length (now (b .entry))) ⌝ }
+{
+    let mut i: usize = 0;
+    while i < a.len() {
+        if i == b.len() {
+            return i;
+        }
+        if a[i] != b[i] {
+            return i;
+        }
+        i += 1;
+    }
+    i
 }
 
 // The first byte, or 256 where there is none.
