@@ -234,9 +234,6 @@ pub splice-then : (s s₀ : List ℕ) (o : ℕ) (b : List ℕ) (p : ℕ) (a : Li
     → splice s p a ≡ splice s₀ o (b ++ a)
 splice-then s s₀ o b p a e q h = rw (e, q) (splice-next s₀ o b h a)
 
--- an insertion: what stood there has moved on, and the new goes into the room
-pub splice-insert : (s s₁ : List ℕ) (o n m : ℕ) (b : List ℕ) → s₁ ≡ splice s (o + n) (region s o m) → length b ≡ n → o + n + m ≤ length s
-    → splice s₁ o b ≡ splice s o (b ++ region s o m)
-splice-insert s s₁ o n m b e l h =
-    let r : length (region s o m) ≡ m = length-region s o m (omega arith) in
-    rw (e, ← l) (splice-prev s o b (region s o m) (omega arith))
+-- the new goes in front of what has moved on
+pub splice-front : (s s₁ : List ℕ) (o p : ℕ) (b t : List ℕ) → s₁ ≡ splice s p t → p ≡ o + length b → p + length t ≤ length s → splice s₁ o b ≡ splice s o (b ++ t)
+splice-front s s₁ o p b t e q h = rw (e, q) (splice-prev s o b t (omega arith))

@@ -1,6 +1,7 @@
 // Insertions: what stands behind the place moves on, up to `used`, and the new bytes go into the room. Each returns how many they are.
 use crate::write::put_leaf;
 use crate::write::put_suffix;
+use buffer::moves::copy_from;
 use buffer::moves::move_within;
 ghost use mathlib.Core.Path.{_≡_};
 ghost use Prim.Native.Nat.{_+_, _-_, _≤_, _<_};
@@ -48,4 +49,13 @@ pub fn insert_suffix(
     move_within(s, at, at + n, used - at);
     put_suffix(s, at, value, path, reference);
     n
+}
+
+// A longer front for a node: `new` in the place of the bytes from `at` to `body`.
+pub fn replace_front(s: &mut [u8], at: usize, body: usize, used: usize, new: &[u8])
+    requires { ⌜ (at ≤ body) × (body ≤ used) × (body ≤ at + length (now new)) × (used + length (now new) ≤ length (now s) + (body - at)) × (used ≤ length (now s)) ⌝ }
+    ensures { λ _. ⌜ now (s .exit) ≡ splice (now (s .entry)) at (now (new .entry) ++ region (now (s .entry)) body (used - body)) ⌝ }
+{
+    move_within(s, body, at + new.len(), used - body);
+    copy_from(s, at, new);
 }

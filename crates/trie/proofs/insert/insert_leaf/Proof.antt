@@ -4,7 +4,8 @@ use native.Mathlib.Omega.{arith}
 use Prim.Native.Nat.{_+_, _-_}
 use mathlib.Core.Path.{_≡_, refl, _∙_}
 use lib.ListN.{length}
-use Rattle.buffer.proofs.Splice.{splice-insert}
+use Rattle.buffer.specs.Splice.{region}
+use Rattle.buffer.proofs.Splice.{splice-front, length-region}
 use Rattle.trie.proofs.Alone.{length-alone}
 use Rattle.trie.proofs.insert.insert_leaf.Statement.{statement}
 use Rattle.trie.proofs.insert.insert_leaf.Tie as tie
@@ -13,7 +14,8 @@ returns : tie.Need-returns
 returns c =
     let a = c .before .before .before .before .before .before .before .before .before .before .before .before .args in
     let l = length-alone (a .value .now) (a .path .now) (a .reference .now) (omega arith) in
-    (refl, c .before .before .put-leaf .ensures ∙ splice-insert (a .s .now) _ (a .at) (29 + length (a .value .now) + length (a .path .now)) (a .used - a .at) _ (c .before .before .before .before .before .before .move-within .ensures) l (omega arith))
+    let r = length-region (a .s .now) (a .at) (a .used - a .at) (omega arith) in
+    (refl, c .before .before .put-leaf .ensures ∙ splice-front (a .s .now) _ (a .at) (a .at + (29 + length (a .value .now) + length (a .path .now))) _ (region (a .s .now) (a .at) (a .used - a .at)) (c .before .before .before .before .before .before .move-within .ensures) (omega arith) (omega arith))
 
 pub insert-leaf-spec : {M : Type 1} → statement M
 insert-leaf-spec =
