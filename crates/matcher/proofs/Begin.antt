@@ -1,8 +1,8 @@
 -- The laws of `beginsLabel` and `beginsLabels`, as the code meets them. Assumes nothing.
 use mathlib.Core.Path.{_≡_, refl, sym, ap₂, _∙_}
 use mathlib.Core.List.{List, [], _∷_}
-use mathlib.Core.Bool.{Bool, true, false, cond, _&&_, _||_}
-use Prim.Native.Nat.{ℕ, _+_, _-_, _<_}
+use mathlib.Core.Bool.{true, false, cond, _&&_, _||_}
+use Prim.Native.Nat.{ℕ, _-_}
 use native.Mathlib.Omega.{arith}
 use lib.ListN.{length, getD}
 use lib.Dec.{eqb, eqb·suc-zero}
@@ -49,7 +49,3 @@ last-cut k b e = rw (no-labels (back k b) (length-back k b ∙ omega arith))
 
 pub other-cut : (k : List ℕ) (b : ℕ) → Cut k b → (b ≡ length k → ⊥) → none (labelsOf (back k b)) ≡ false
 other-cut k b h f = some-labels (back k b) (λ e. let l = length-back k b in let m = h .high in f (omega arith)) (h .begun)
-
--- after a label of each, fewer bytes are left
-pub shrinks : (p k : List ℕ) (a b : ℕ) → Cut p a → Cut k b → length (back p a) + length (back k b) < length p + length k
-shrinks p k a b h g = let l = length-back p a in let m = length-back k b in omega arith

@@ -4,7 +4,7 @@ use mathlib.Core.List.{List, [], _∷_, _++_, append-assoc, append-nil}
 use mathlib.Core.Bool.{Bool, true, false, not, cond, _&&_}
 use Prim.Native.Nat.{ℕ, suc, _-_, _<_, _≤_}
 use native.Mathlib.Omega.{arith}
-use lib.ListN.{length, take, drop, getD, drop-of-length-le}
+use lib.ListN.{length, take, drop-of-length-le}
 use lib.Seq.{split-at}
 use lib.Dec.{eqb}
 use borrow.Author.Tests.{eq-eqb, ne-eqb, eqb-true}
@@ -19,7 +19,7 @@ use Rattle.matcher.specs.declared.reach.Answer.{Answer}
 use Rattle.matcher.specs.declared.reach.Answer.the-variants.{Match, Mismatch, Incomplete}
 use Rattle.matcher.proofs.Bools.{not-both, and-left, and-right, and-true}
 use Rattle.matcher.proofs.Parts.{no-items, not-none}
-use Rattle.matcher.proofs.Forms.{fine-path, fine-pattern, matches-pattern, matches-path, matches-fits, labelled-begun, labelled-all}
+use Rattle.matcher.proofs.Forms.{fine-path, fine-pattern, matches-pattern, matches-path, matches-fits, labelled-all}
 use Rattle.matcher.proofs.Apart.{lastByte}
 use Rattle.matcher.proofs.Goes.{begins-all, goes-all}
 use Rattle.matcher.proofs.Joined.{joined, join-begun, labels-of-join, formed-join, ext-join, prefix-ext}

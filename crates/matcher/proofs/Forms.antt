@@ -1,18 +1,17 @@
 -- What a formed pattern and a formed path are known to be. Assumes nothing.
 use mathlib.Core.Path.{_≡_, refl}
-use mathlib.Core.List.{List, [], _∷_}
+use mathlib.Core.List.{List}
 use mathlib.Core.Bool.{Bool, true, false, cond, _&&_, _||_}
 use Prim.Native.Nat.{ℕ}
 use lib.ListN.{getD}
 use lib.Dec.{eqb}
 use borrow.Author.Tests.{eqb-true}
-use Rattle.buffer.specs.Lists.{none, all}
+use Rattle.buffer.specs.Lists.{all}
 use Rattle.matcher.specs.Bytes.{slash}
 use Rattle.matcher.specs.Labels.{labelsOf}
 use Rattle.matcher.specs.Fit.{fitsPath}
 use Rattle.matcher.specs.Inner.{Begun}
 use Rattle.matcher.specs.Form.{labelled, formedPath, formedPattern, tooLong, tooMany, pathForm, patternForm, isFine, matches}
-use Rattle.matcher.specs.declared.form.Form.{Form}
 use Rattle.matcher.specs.declared.form.Form.the-variants.{Fine, TooLong, Malformed}
 use Rattle.matcher.proofs.Bools.{not-both, and-left, and-right}
 

@@ -1,6 +1,6 @@
 -- Bytes that begin a path: what `beginsPath` says is so exactly where some path goes on from them. One more byte x makes a path of them.
 -- Assumes nothing.
-use mathlib.Core.Path.{_≡_, refl, sym, ap, ap₂, subst, _∙_}
+use mathlib.Core.Path.{_≡_, refl, sym, ap, ap₂, _∙_}
 use mathlib.Core.List.{List, [], _∷_, _++_}
 use mathlib.Core.Bool.{Bool, true, false, not, cond, _&&_}
 use mathlib.Core.Logic.{_⊎_, inl, inr, ⊎-elim}
@@ -10,7 +10,7 @@ use lib.ListN.{length, take, getD, length-append}
 use lib.Seq.{take-append-seam, getD-append-seam}
 use lib.Dec.{eqb}
 use borrow.Author.Tests.{eqb-true, ne-eqb}
-use Rattle.buffer.specs.Lists.{none, all}
+use Rattle.buffer.specs.Lists.{all}
 use Rattle.matcher.specs.Bytes.{slash, endByte, labelByte}
 use Rattle.matcher.specs.Form.{apart, formedPath}
 use Rattle.matcher.specs.Reach.{beginsPath}

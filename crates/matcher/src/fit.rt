@@ -13,7 +13,7 @@ ghost use Rattle.matcher.specs.Inner.{Begun, Says, isFit};
 ghost use Rattle.matcher.specs.Form.{matches};
 
 // `Never`: it fails now, and also once any of the first bytes (or labels) are taken away.
-pub enum Trial {
+pub(crate) enum Trial {
     Fits,
     Fails,
     Never,
@@ -70,7 +70,7 @@ fn after_star(p: &[u8], s: &[u8]) -> Trial
 }
 
 // Does a label fit a label of a pattern?
-pub fn label_fits(p: &[u8], s: &[u8]) -> bool
+pub(crate) fn label_fits(p: &[u8], s: &[u8]) -> bool
     ensures { λ r. ⌜ r ≡ fitsLabel (now (p .entry)) (now (s .entry)) ⌝ }
 {
     is_fit(label(p, s))

@@ -15,7 +15,7 @@ ghost use Rattle.buffer.specs.Lists.{all};
 ghost use Rattle.matcher.specs.Bytes.{labelByte};
 ghost use Rattle.matcher.specs.Labels.{labelsOf};
 ghost use Rattle.matcher.specs.Inner.{Begun};
-ghost use Rattle.matcher.specs.Form.{apart, patternLabel, formedPath, formedPattern, pathForm, patternForm, isFine};
+ghost use Rattle.matcher.specs.Form.{apart, patternLabel, formedPath, formedPattern, pathForm, patternForm, isFine, pathNumber, patternNumber};
 ghost use Rattle.matcher.specs.Reach.{beginsPath};
 
 // How a path or a pattern is formed. `TooLong`: over 200 bytes, or a pattern with over 32 `/`.
@@ -32,6 +32,27 @@ pub fn is_fine(f: Form) -> bool
         Form::Fine => true,
         Form::TooLong => false,
         Form::Malformed => false,
+    }
+}
+
+// The number of document 01 for a path, and for a pattern, of this form: 0 where it is fine.
+pub fn path_number(f: Form) -> u64
+    ensures { λ r. ⌜ r ≡ pathNumber f ⌝ }
+{
+    match f {
+        Form::Fine => 0,
+        Form::TooLong => 2,
+        Form::Malformed => 1,
+    }
+}
+
+pub fn pattern_number(f: Form) -> u64
+    ensures { λ r. ⌜ r ≡ patternNumber f ⌝ }
+{
+    match f {
+        Form::Fine => 0,
+        Form::TooLong => 8,
+        Form::Malformed => 7,
     }
 }
 
@@ -60,7 +81,7 @@ fn are_apart(s: &[u8], mark: u8) -> bool
 }
 
 // Do these bytes begin a path?
-pub fn begins_path(known: &[u8]) -> bool
+pub(crate) fn begins_path(known: &[u8]) -> bool
     ensures { λ r. ⌜ r ≡ beginsPath (now (known .entry)) ⌝ }
 {
     if known.len() == 0 {
@@ -73,7 +94,7 @@ pub fn begins_path(known: &[u8]) -> bool
 }
 
 // Is this a path, of any length? One that ends with `/` has an empty label.
-pub fn is_path(path: &[u8]) -> bool
+pub(crate) fn is_path(path: &[u8]) -> bool
     ensures { λ r. ⌜ r ≡ formedPath (now (path .entry)) ⌝ }
 {
     let n = path.len();

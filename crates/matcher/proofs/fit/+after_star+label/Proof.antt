@@ -1,9 +1,9 @@
 -- The proof of the cycle of calls {after_star, label}. The measure is the pattern's bytes left, twice, and one more for `after_star`, which calls
 -- `label` with the pattern that it is given. The invariant of the loop: an answer for what is left of the label is the answer for all of it.
 -- Assumes nothing.
-use mathlib.Core.Path.{_≡_, refl, sym, ap, subst, _∙_}
-use mathlib.Core.List.{List, [], _∷_}
-use mathlib.Core.Bool.{Bool, true, false}
+use mathlib.Core.Path.{_≡_, sym, subst}
+use mathlib.Core.List.{List}
+use mathlib.Core.Bool.{Bool, false}
 use Prim.Native.Nat.{ℕ, _+_, _*_, _-_, _<_, _≤_}
 use lib.ListN.{length, getD}
 use lib.Dec.{eqb}
@@ -11,10 +11,9 @@ use borrow.Author.Tests.{eq-eqb, ne-eqb}
 use borrow.Author.Needs.{needs}
 use borrow.Fn.Kinds.{In}
 use borrow.Fn.PlainCycle.{Measures, is, falls, and}
-use Rattle.matcher.specs.Fit.{afterSome, first, fit, fitsLabel}
+use Rattle.matcher.specs.Fit.{afterSome, first, fitsLabel}
 use Rattle.matcher.specs.Inner.{Says}
-use Rattle.matcher.specs.declared.fit.Trial.{Trial}
-use Rattle.matcher.specs.declared.fit.Trial.the-variants.{Fits, Fails, Never}
+use Rattle.matcher.specs.declared.fit.Trial.the-variants.{Fits, Never}
 use Rattle.matcher.proofs.Parts.{rest, split, back, back-all, back-step, back-end, no-items, an-item}
 use Rattle.matcher.proofs.Trials.{Passes, pass-on, pass-end, now-some, never-twice, first-on, first-off, star-law, byte-law, end-law}
 use Rattle.matcher.proofs.fit.after_star.Reads as after-star

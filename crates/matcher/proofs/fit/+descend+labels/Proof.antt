@@ -1,20 +1,18 @@
 -- The proof of the cycle of calls {descend, labels}. The measure is the bytes left of both, twice, and one more for `descend`, which calls `labels`
 -- with the pattern that it is given. The invariant of the loop: an answer for the labels that are left is the answer for all of them.
 -- Assumes nothing.
-use mathlib.Core.Path.{_≡_, refl, sym, ap, subst, _∙_}
-use mathlib.Core.List.{List, [], _∷_}
-use mathlib.Core.Bool.{Bool, true, false}
+use mathlib.Core.Path.{sym, ap, subst, _∙_}
+use mathlib.Core.List.{List}
+use mathlib.Core.Bool.{Bool}
 use Prim.Native.Nat.{ℕ, _+_, _*_, _-_, _<_, _≤_}
-use native.Mathlib.Omega.{arith}
 use lib.ListN.{length}
 use borrow.Author.Needs.{needs}
 use borrow.Fn.Kinds.{In}
 use borrow.Fn.PlainCycle.{Measures, is, falls, and}
-use Rattle.matcher.specs.Labels.{labelsOf, deep}
-use Rattle.matcher.specs.Fit.{afterSome, first, fit, fitsLabel, fitLabels}
+use Rattle.matcher.specs.Labels.{labelsOf}
+use Rattle.matcher.specs.Fit.{afterSome, fit, fitsLabel, fitLabels}
 use Rattle.matcher.specs.Inner.{Begun, Says}
-use Rattle.matcher.specs.declared.fit.Trial.{Trial}
-use Rattle.matcher.specs.declared.fit.Trial.the-variants.{Fits, Fails, Never}
+use Rattle.matcher.specs.declared.fit.Trial.the-variants.{Fits, Never}
 use Rattle.matcher.proofs.Parts.{front, back, back-all, back-back, back-end}
 use Rattle.matcher.proofs.Trials.{Passes, pass-end, now-some, never-twice}
 use Rattle.matcher.proofs.Cuts.{no-labels, some-labels, deep-law, one-law, pass-cut, first-cut, first-not}

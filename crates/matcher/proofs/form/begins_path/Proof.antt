@@ -1,6 +1,5 @@
 -- `matcher::form::begins_path` meets its contract: the tests pick the case of `beginsPath`.
 -- Assumes nothing.
-use mathlib.Core.Path.{_∙_}
 use borrow.Author.Tests.{eq-eqb, ne-eqb}
 use borrow.Author.Needs.{needs}
 use Rattle.matcher.proofs.Apart.{begins-none, begins-some}

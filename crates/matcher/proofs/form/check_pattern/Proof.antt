@@ -1,7 +1,6 @@
 -- `matcher::form::check_pattern` meets its contract: length first, then the number of labels, then form.
 -- Assumes nothing.
 use mathlib.Core.Path.{sym, ap, _∙_}
-use Prim.Native.Nat.{ℕ}
 use lib.Dec.{ltb}
 use borrow.Author.Tests.{lt-ltb, le-ltb}
 use borrow.Author.Needs.{needs}

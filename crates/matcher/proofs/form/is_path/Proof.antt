@@ -1,7 +1,6 @@
 -- `matcher::form::is_path` meets its contract, by `formed-bytes`.
 -- Assumes nothing.
 use mathlib.Core.Path.{sym, _∙_}
-use borrow.Author.Tests.{eq-eqb, ne-eqb}
 use borrow.Author.Needs.{needs}
 use Rattle.matcher.proofs.Parts.{no-items}
 use Rattle.matcher.proofs.Apart.{ends-slash, ends-label}

@@ -1,5 +1,5 @@
 -- The proof of the cycle of calls {can}. The measure is the pattern's bytes left. Assumes nothing.
-use mathlib.Core.Path.{_≡_, sym, _∙_}
+use mathlib.Core.Path.{sym, _∙_}
 use Prim.Native.Nat.{ℕ, _+_, _<_}
 use lib.ListN.{length}
 use borrow.Author.Needs.{needs}

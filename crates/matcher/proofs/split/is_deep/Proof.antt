@@ -5,12 +5,6 @@ use borrow.Author.Needs.{needs}
 use Rattle.matcher.proofs.split.is_deep.Statement.{statement}
 use Rattle.matcher.proofs.split.is_deep.Tie as tie
 
-shared-slice-read-if2 : tie.Need-shared-slice-read-if2
-shared-slice-read-if2 c = search needs
-
-shared-slice-read-result : tie.Need-shared-slice-read-result
-shared-slice-read-result c = search needs
-
 returns : tie.Need-returns
 returns c = simp (eq-eqb _ _ (c .before .before .before .if1 .taken), eq-eqb _ _ (c .before .if2 .taken))
 
@@ -22,4 +16,4 @@ returns-3 c = simp (ne-eqb _ _ (c .if1 .left))
 
 pub is-deep-spec : {M : Type 1} → statement M
 is-deep-spec =
-    tie.close (tie.spec shared-slice-read-if2 shared-slice-read-result returns returns-2 returns-3)
+    tie.close (tie.spec (λ c. search needs) (λ c. search needs) returns returns-2 returns-3)
