@@ -13,8 +13,8 @@ use Rattle.buffer.specs.Lists.{none, all}
 use Rattle.matcher.specs.Bytes.{slash, labelByte}
 use Rattle.matcher.specs.Labels.{upToSlash, labelsOf}
 use Rattle.matcher.specs.Form.{apart, pathLabel, formedPath}
-use Rattle.matcher.proofs.Bools.{and-false}
 use Rattle.matcher.specs.Reach.{beginsPath}
+use Rattle.matcher.proofs.Bools.{and-false}
 use Rattle.matcher.proofs.Parts.{step, done, no-items}
 
 -- c may stand before next

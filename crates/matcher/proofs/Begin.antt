@@ -10,8 +10,8 @@ use Rattle.buffer.specs.Lists.{none}
 use Rattle.matcher.specs.Bytes.{star}
 use Rattle.matcher.specs.Labels.{labelsOf, deep}
 use Rattle.matcher.specs.Fit.{fitsLabel}
-use Rattle.matcher.specs.Inner.{Begun, Cut}
 use Rattle.matcher.specs.Reach.{beginsLabel, beginsLabels}
+use Rattle.matcher.specs.Inner.{Begun, Cut}
 use Rattle.matcher.proofs.Parts.{rest, split, front, back, no-items, length-back}
 use Rattle.matcher.proofs.Cuts.{no-labels, some-labels}
 

@@ -11,10 +11,12 @@ use borrow.Author.Tests.{eq-eqb, ne-eqb, eqb-true}
 use Rattle.buffer.specs.Lists.{none, all}
 use Rattle.matcher.specs.Bytes.{slash, star, endByte, labelByte}
 use Rattle.matcher.specs.Labels.{labelsOf}
+use Rattle.matcher.specs.Form.{apart, pathLabel, patternLabel, formedPath, formedPattern, pathForm, patternForm, isFine}
 use Rattle.matcher.specs.Fit.{fit, fitLabels, fitsPath}
+use Rattle.matcher.specs.Matches.{matches}
+use Rattle.matcher.specs.Continued.{Continued, ended, Told}
+use Rattle.matcher.specs.Reach.{beginsPath, beginsLabels, reachWhole, reachOpen, reachOf, goesOn, Reached}
 use Rattle.matcher.specs.Inner.{Begun}
-use Rattle.matcher.specs.Form.{apart, pathLabel, patternLabel, formedPath, formedPattern, pathForm, patternForm, isFine, matches}
-use Rattle.matcher.specs.Reach.{Continued, ended, Told, beginsPath, beginsLabels, reachWhole, reachOpen, reachOf, goesOn, Reached}
 use Rattle.matcher.specs.declared.reach.Answer.{Answer}
 use Rattle.matcher.specs.declared.reach.Answer.the-variants.{Match, Mismatch, Incomplete}
 use Rattle.matcher.proofs.Bools.{not-both, and-left, and-right, and-true}

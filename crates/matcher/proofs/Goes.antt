@@ -11,8 +11,8 @@ use borrow.Author.Tests.{eq-eqb, ne-eqb, eqb-true, eqb-false, not-true}
 use Rattle.buffer.specs.Lists.{none, all}
 use Rattle.matcher.specs.Bytes.{star, labelByte}
 use Rattle.matcher.specs.Labels.{deep}
-use Rattle.matcher.specs.Fit.{afterSome, fit, fitsLabel, fitLabels}
 use Rattle.matcher.specs.Form.{apart, pathLabel, patternLabel}
+use Rattle.matcher.specs.Fit.{afterSome, fit, fitsLabel, fitLabels}
 use Rattle.matcher.specs.Reach.{beginsLabel, beginsLabels}
 use Rattle.matcher.proofs.Bools.{not-both, and-left, and-right, and-true, or-right, or-first, or-second}
 use Rattle.matcher.proofs.Trials.{now-some}

@@ -9,8 +9,8 @@ use borrow.Author.Tests.{eq-eqb, ne-eqb, eqb-true}
 use Rattle.buffer.specs.Lists.{none, all}
 use Rattle.matcher.specs.Bytes.{slash, endByte, labelByte}
 use Rattle.matcher.specs.Labels.{upToSlash, labelsOf}
-use Rattle.matcher.specs.Inner.{Begun}
 use Rattle.matcher.specs.Form.{pathLabel, formedPath}
+use Rattle.matcher.specs.Inner.{Begun}
 use Rattle.matcher.proofs.Bools.{not-both, and-left, and-right}
 use Rattle.matcher.proofs.Goes.{Ext}
 

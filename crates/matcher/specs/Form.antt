@@ -7,7 +7,6 @@ use lib.Dec.{eqb, ltb}
 use Rattle.buffer.specs.Lists.{none, all}
 use Rattle.matcher.specs.Bytes.{slash, star, pathLimit, patternLabelLimit, labelByte}
 use Rattle.matcher.specs.Labels.{labelsOf, deep}
-use Rattle.matcher.specs.Fit.{fitsPath}
 use Rattle.matcher.specs.declared.form.Form.{Form}
 use Rattle.matcher.specs.declared.form.Form.the-variants.{Fine, TooLong, Malformed}
 
@@ -66,7 +65,3 @@ abbrev pub isFine : Form → Bool
 isFine Fine = true
 isFine TooLong = false
 isFine Malformed = false
-
--- a path matches a pattern: both are formed, and the path fits
-unfoldable pub matches : List ℕ → List ℕ → Bool
-matches pattern path = isFine (patternForm pattern) && (isFine (pathForm path) && fitsPath pattern path)

@@ -1,8 +1,10 @@
 pub mod Bytes
 pub mod Labels
-pub mod Fit
-pub mod Inner
 pub mod Form
+pub mod Fit
+pub mod Matches
+pub mod Continued
 pub mod Reach
 pub mod Reading
 pub mod Worked
+pub mod Inner

@@ -1,37 +1,19 @@
--- What the bytes known of a path say: it matches, it cannot, or it depends on what follows. `Told` is what an answer means; `reachOf` is
--- the answer as a test that computes. That the test says what it means is proved of every pattern and all known bytes (`proofs/Decided.antt`).
+-- The answer about known bytes as a test that computes. That it says what it means, `Told`, is proved of every pattern and all known
+-- bytes (`proofs/Decided.antt`). Assumes nothing: these are definitions.
 use Prim.Native.Nat.{ℕ, _-_}
 use mathlib.Core.Path.{_≡_}
-use mathlib.Core.List.{List, [], _∷_, _++_}
-use mathlib.Core.Bool.{Bool, true, false, not, cond, _&&_, _||_}
+use mathlib.Core.List.{List, [], _∷_}
+use mathlib.Core.Bool.{Bool, true, false, cond, _&&_, _||_}
 use lib.ListN.{length, take, getD}
 use lib.Dec.{eqb}
 use Rattle.buffer.specs.Lists.{none}
-use Rattle.matcher.specs.Bytes.{slash, star, endByte}
+use Rattle.matcher.specs.Bytes.{slash, star}
 use Rattle.matcher.specs.Labels.{labelsOf, deep}
 use Rattle.matcher.specs.Fit.{fitsLabel, fitsPath}
 use Rattle.matcher.specs.Form.{apart, formedPath, patternForm, isFine}
+use Rattle.matcher.specs.Continued.{ended, Told}
 use Rattle.matcher.specs.declared.reach.Answer.{Answer}
 use Rattle.matcher.specs.declared.reach.Answer.the-variants.{Match, Mismatch, Incomplete}
-
--- the bytes known are the first of a formed path, of any length, with its end byte, and the path fits the pattern, which is formed
-pub record Continued (pattern known : List ℕ) : Type 0 where
-  pub is-pattern : isFine (patternForm pattern) ≡ true
-  pub path : List ℕ
-  pub is-path : formedPath path ≡ true
-  pub more : List ℕ
-  pub goes-on : known ++ more ≡ path ++ (endByte ∷ [])
-  pub fits : fitsPath pattern path ≡ true
-
--- the last byte known is the end byte
-abbrev pub ended : List ℕ → Bool
-ended known = not (none known) && eqb (getD known (length known - 1) 0) endByte
-
--- match: a path that matches is known whole. Incomplete: the end byte is not known yet, and some path matches. Mismatch: none does
-abbrev pub Told : List ℕ → List ℕ → Answer → Type 0
-Told pattern known Match = (C : Continued pattern known) × (known ≡ C .path ++ (endByte ∷ []))
-Told pattern known Incomplete = Continued pattern known × (ended known ≡ false)
-Told pattern known Mismatch = Continued pattern known → ⊥
 
 -- bytes that begin a path: `/` first, then label bytes and `/`, of which no two stand together
 abbrev pub beginsPath : List ℕ → Bool

@@ -5,8 +5,9 @@ use mathlib.Core.List.{List, [], _∷_, map}
 use mathlib.Core.Bool.{Bool, true, false}
 use Prim.Native.Nat.{ℕ}
 use Rattle.matcher.specs.Bytes.{labelByte}
+use Rattle.matcher.specs.Form.{pathForm, patternForm}
 use Rattle.matcher.specs.Fit.{fit}
-use Rattle.matcher.specs.Form.{pathForm, patternForm, matches}
+use Rattle.matcher.specs.Matches.{matches}
 use Rattle.matcher.specs.Reach.{reachOf, goesOn}
 
 -- a pattern with a path, which matches or does not, or with known bytes, which can be continued or cannot

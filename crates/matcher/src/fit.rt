@@ -9,8 +9,8 @@ use crate::split::label_end;
 ghost use mathlib.Core.Path.{_≡_};
 ghost use Rattle.matcher.specs.Labels.{labelsOf};
 ghost use Rattle.matcher.specs.Fit.{afterSome, fitsLabel, fitLabels, fitsPath};
+ghost use Rattle.matcher.specs.Matches.{matches};
 ghost use Rattle.matcher.specs.Inner.{Begun, Says, isFit};
-ghost use Rattle.matcher.specs.Form.{matches};
 
 // `Never`: it fails now, and also once any of the first bytes (or labels) are taken away.
 pub(crate) enum Trial {

@@ -14,9 +14,9 @@ ghost use lib.Dec.{eqb};
 ghost use Rattle.buffer.specs.Lists.{all};
 ghost use Rattle.matcher.specs.Bytes.{labelByte};
 ghost use Rattle.matcher.specs.Labels.{labelsOf};
-ghost use Rattle.matcher.specs.Inner.{Begun};
 ghost use Rattle.matcher.specs.Form.{apart, patternLabel, formedPath, formedPattern, pathForm, patternForm, isFine, pathNumber, patternNumber};
 ghost use Rattle.matcher.specs.Reach.{beginsPath};
+ghost use Rattle.matcher.specs.Inner.{Begun};
 
 // How a path or a pattern is formed. `TooLong`: over 200 bytes, or a pattern with over 32 `/`.
 pub enum Form {

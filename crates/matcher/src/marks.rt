@@ -1,7 +1,6 @@
-// The table of 256 marks, by byte.
-
-// A mark for each byte: 1 for the bytes of a label, 20 to 7E and 80 to FF hex without `/` and `*`.
+// The table of 256 marks: 1 for each byte of a label, 20 to 7E and 80 to FF hex without `/` and `*`.
 pub const LABEL_BYTES: [u8; 256] = [
+    // 00 to 0F
     0,
     0,
     0,
@@ -18,6 +17,7 @@ pub const LABEL_BYTES: [u8; 256] = [
     0,
     0,
     0,
+    // 10 to 1F
     0,
     0,
     0,
@@ -34,6 +34,7 @@ pub const LABEL_BYTES: [u8; 256] = [
     0,
     0,
     0,
+    // 20 to 2F
     1,
     1,
     1,
@@ -50,6 +51,7 @@ pub const LABEL_BYTES: [u8; 256] = [
     1,
     1,
     0,
+    // 30 to 3F
     1,
     1,
     1,
@@ -66,6 +68,7 @@ pub const LABEL_BYTES: [u8; 256] = [
     1,
     1,
     1,
+    // 40 to 4F
     1,
     1,
     1,
@@ -82,6 +85,7 @@ pub const LABEL_BYTES: [u8; 256] = [
     1,
     1,
     1,
+    // 50 to 5F
     1,
     1,
     1,
@@ -98,6 +102,7 @@ pub const LABEL_BYTES: [u8; 256] = [
     1,
     1,
     1,
+    // 60 to 6F
     1,
     1,
     1,
@@ -114,6 +119,7 @@ pub const LABEL_BYTES: [u8; 256] = [
     1,
     1,
     1,
+    // 70 to 7F
     1,
     1,
     1,
@@ -130,6 +136,7 @@ pub const LABEL_BYTES: [u8; 256] = [
     1,
     1,
     0,
+    // 80 to 8F
     1,
     1,
     1,
@@ -146,6 +153,7 @@ pub const LABEL_BYTES: [u8; 256] = [
     1,
     1,
     1,
+    // 90 to 9F
     1,
     1,
     1,
@@ -162,6 +170,7 @@ pub const LABEL_BYTES: [u8; 256] = [
     1,
     1,
     1,
+    // A0 to AF
     1,
     1,
     1,
@@ -178,6 +187,7 @@ pub const LABEL_BYTES: [u8; 256] = [
     1,
     1,
     1,
+    // B0 to BF
     1,
     1,
     1,
@@ -194,6 +204,7 @@ pub const LABEL_BYTES: [u8; 256] = [
     1,
     1,
     1,
+    // C0 to CF
     1,
     1,
     1,
@@ -210,6 +221,7 @@ pub const LABEL_BYTES: [u8; 256] = [
     1,
     1,
     1,
+    // D0 to DF
     1,
     1,
     1,
@@ -226,6 +238,7 @@ pub const LABEL_BYTES: [u8; 256] = [
     1,
     1,
     1,
+    // E0 to EF
     1,
     1,
     1,
@@ -242,6 +255,7 @@ pub const LABEL_BYTES: [u8; 256] = [
     1,
     1,
     1,
+    // F0 to FF
     1,
     1,
     1,

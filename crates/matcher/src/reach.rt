@@ -12,9 +12,9 @@ use crate::split::label_end;
 ghost use mathlib.Core.Path.{_≡_};
 ghost use mathlib.Core.Bool.{true};
 ghost use Rattle.matcher.specs.Labels.{labelsOf};
-ghost use Rattle.matcher.specs.Inner.{Begun};
 ghost use Rattle.matcher.specs.Form.{patternForm, isFine};
 ghost use Rattle.matcher.specs.Reach.{beginsLabel, beginsLabels, reachWhole, reachOpen, Reached};
+ghost use Rattle.matcher.specs.Inner.{Begun};
 
 // What the bytes known of a path say of a pattern.
 pub enum Answer {

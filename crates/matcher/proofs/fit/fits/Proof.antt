@@ -3,7 +3,8 @@
 use mathlib.Core.Path.{sym, ap, _∙_}
 use borrow.Author.Tests.{not-true, not-false}
 use borrow.Author.Needs.{needs}
-use Rattle.matcher.specs.Form.{pathLabel, patternLabel, isFine, matches}
+use Rattle.matcher.specs.Form.{pathLabel, patternLabel, isFine}
+use Rattle.matcher.specs.Matches.{matches}
 use Rattle.matcher.proofs.Forms.{fine-path, fine-pattern, labelled-begun}
 use Rattle.matcher.proofs.fit.fits.Statement.{statement}
 use Rattle.matcher.proofs.fit.fits.Tie as tie
