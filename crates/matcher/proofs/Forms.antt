@@ -9,7 +9,7 @@ use borrow.Author.Tests.{eqb-true}
 use Rattle.buffer.specs.Lists.{all}
 use Rattle.matcher.specs.Bytes.{slash}
 use Rattle.matcher.specs.Labels.{labelsOf}
-use Rattle.matcher.specs.Form.{labelled, formedPath, formedPattern, tooLong, tooMany, pathForm, patternForm, isFine}
+use Rattle.matcher.specs.Form.{pathLabel, patternLabel, labelled, formedPath, formedPattern, tooLong, tooMany, pathForm, patternForm, isFine}
 use Rattle.matcher.specs.Fit.{fitsPath}
 use Rattle.matcher.specs.Matches.{matches}
 use Rattle.matcher.specs.Inner.{Begun}
@@ -35,6 +35,12 @@ module _ (label : List ℕ → Bool) (s : List ℕ) (e : labelled label s ≡ tr
 
   pub labelled-all : all label (labelsOf s) ≡ true
   labelled-all = and-right (eqb (getD s 0 0) slash) (all label (labelsOf s)) e
+
+pub pattern-begun : (p : List ℕ) → isFine (patternForm p) ≡ true → Begun p
+pattern-begun p e = labelled-begun patternLabel p (fine-pattern p e)
+
+pub path-begun : (s : List ℕ) → isFine (pathForm s) ≡ true → Begun s
+path-begun s e = labelled-begun pathLabel s (fine-path s e)
 
 -- where both are formed, to match is to fit
 pub matches-fits : (p s : List ℕ) → isFine (patternForm p) ≡ true → isFine (pathForm s) ≡ true → matches p s ≡ fitsPath p s

@@ -1,13 +1,13 @@
--- What the proofs of several functions, and of callers, use.
+-- Laws that belong to no function. The public ones are for callers' proofs.
 pub mod Bools
-pub mod Parts
-pub mod Table
-pub mod Trials
-pub mod Cuts
-pub mod Apart
+mod Parts
+mod Table
+mod Trials
+mod Cuts
+mod Apart
 pub mod Forms
-pub mod Begin
-pub mod Goes
-pub mod Joined
-pub mod Prefixes
+mod Begin
+mod Goes
+mod Joined
+mod Prefixes
 pub mod Decided

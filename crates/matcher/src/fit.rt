@@ -120,7 +120,8 @@ fn descend(pattern: &[u8], path: &[u8]) -> Trial
     labels(pattern, &path[b..])
 }
 
-// Does a formed path fit a formed pattern? For callers that have checked both: nothing is checked again.
+// Does a formed path fit a formed pattern? For callers that have checked both, as the search: nothing is checked again, and a
+// pattern of any length would be tried, with a stack as deep as it is long.
 pub fn fits_formed(pattern: &[u8], path: &[u8]) -> bool
     requires { ⌜ Begun (now pattern) × Begun (now path) ⌝ }
     ensures { λ r. ⌜ r ≡ fitsPath (now (pattern .entry)) (now (path .entry)) ⌝ }
@@ -128,7 +129,7 @@ pub fn fits_formed(pattern: &[u8], path: &[u8]) -> bool
     is_fit(labels(pattern, path))
 }
 
-// Does a path match a pattern? False where either is not formed.
+// Does a path match a pattern? False where either is not formed. For callers that have checked neither, as the sprayer's filter.
 pub fn fits(pattern: &[u8], path: &[u8]) -> bool
     ensures { λ r. ⌜ r ≡ matches (now (pattern .entry)) (now (path .entry)) ⌝ }
 {

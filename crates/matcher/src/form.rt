@@ -25,6 +25,7 @@ pub enum Form {
     Malformed,
 }
 
+// Is it formed, its lengths included?
 pub fn is_fine(f: Form) -> bool
     ensures { λ r. ⌜ r ≡ isFine f ⌝ }
 {
@@ -107,6 +108,7 @@ pub(crate) fn is_path(path: &[u8]) -> bool
     begins_path(path)
 }
 
+// The form of a path: length first, then its labels.
 pub fn check_path(path: &[u8]) -> Form
     ensures { λ r. ⌜ r ≡ pathForm (now (path .entry)) ⌝ }
 {
@@ -157,6 +159,7 @@ fn is_pattern(pattern: &[u8]) -> bool
     false
 }
 
+// The form of a pattern: length and number of labels first, then its labels.
 pub fn check_pattern(pattern: &[u8]) -> Form
     ensures { λ r. ⌜ r ≡ patternForm (now (pattern .entry)) ⌝ }
 {

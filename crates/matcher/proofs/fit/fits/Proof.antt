@@ -3,9 +3,9 @@
 use mathlib.Core.Path.{sym, ap, _∙_}
 use borrow.Author.Tests.{not-true, not-false}
 use borrow.Author.Needs.{needs}
-use Rattle.matcher.specs.Form.{pathLabel, patternLabel, isFine}
+use Rattle.matcher.specs.Form.{isFine}
 use Rattle.matcher.specs.Matches.{matches}
-use Rattle.matcher.proofs.Forms.{fine-path, fine-pattern, labelled-begun}
+use Rattle.matcher.proofs.Forms.{pattern-begun, path-begun}
 use Rattle.matcher.proofs.fit.fits.Statement.{statement}
 use Rattle.matcher.proofs.fit.fits.Tie as tie
 
@@ -24,9 +24,7 @@ fits-formed-requires : tie.Need-fits-formed-requires
 fits-formed-requires c κs =
     let p = sym (c .before .before .before .before .is-fine .ensures ∙ ap isFine (c .before .before .before .before .before .check-pattern .ensures)) ∙ not-false _ (c .before .before .before .if1 .left) in
     let s = sym (c .before .is-fine2 .ensures ∙ ap isFine (c .before .before .check-path .ensures)) ∙ not-false _ (c .if2 .left) in
-    let pattern = c .before .before .before .before .before .before .before .before .args .pattern .now in
-    let path = c .before .before .before .before .before .before .before .before .args .path .now in
-    (labelled-begun patternLabel pattern (fine-pattern pattern p), labelled-begun pathLabel path (fine-path path s))
+    (pattern-begun (c .before .before .before .before .before .before .before .before .args .pattern .now) p, path-begun (c .before .before .before .before .before .before .before .before .args .path .now) s)
 
 returns-3 : tie.Need-returns-3
 unfolding matches

@@ -5,9 +5,8 @@ use Prim.Native.Nat.{ℕ, _-_}
 use native.Mathlib.Omega.{arith}
 use lib.ListN.{length, take}
 use borrow.Author.Needs.{needs}
-use Rattle.matcher.specs.Form.{patternLabel}
 use Rattle.matcher.specs.Reach.{reachWhole}
-use Rattle.matcher.proofs.Forms.{fine-pattern, labelled-begun}
+use Rattle.matcher.proofs.Forms.{pattern-begun}
 use Rattle.matcher.proofs.Decided.{reached, reach-none, reach-end, reach-more}
 use Rattle.matcher.proofs.reach.reach_formed.Statement.{statement}
 use Rattle.matcher.proofs.reach.reach_formed.Tie as tie
@@ -17,7 +16,7 @@ from-start : (n : ℕ) → n - 0 ≡ n
 from-start n = omega arith
 
 reach-open-requires : tie.Need-reach-open-requires
-reach-open-requires c κs = labelled-begun patternLabel (c .before .before .before .args .pattern .now) (fine-pattern (c .before .before .before .args .pattern .now) (c .before .before .before .pre))
+reach-open-requires c κs = pattern-begun (c .before .before .before .args .pattern .now) (c .before .before .before .pre)
 
 returns : tie.Need-returns
 returns c =
@@ -26,7 +25,7 @@ returns c =
     reached p k (c .reach-open .result) (c .reach-open .ensures ∙ sym (reach-none p k (c .before .before .before .before .pre) (c .before .if1 .taken)))
 
 reach-whole-requires : tie.Need-reach-whole-requires
-reach-whole-requires c κs = labelled-begun patternLabel (c .before .before .before .before .before .before .args .pattern .now) (fine-pattern (c .before .before .before .before .before .before .args .pattern .now) (c .before .before .before .before .before .before .pre))
+reach-whole-requires c κs = pattern-begun (c .before .before .before .before .before .before .args .pattern .now) (c .before .before .before .before .before .before .pre)
 
 returns-2 : tie.Need-returns-2
 returns-2 c =
@@ -35,7 +34,7 @@ returns-2 c =
     reached p k (c .reach-whole .result) (c .reach-whole .ensures ∙ ap (λ (n : ℕ). reachWhole p (take n k)) (from-start (length k - 1)) ∙ sym (reach-end p k (c .before .before .before .before .before .before .before .pre) (c .before .before .before .before .if1 .left) (c .before .before .if2 .taken)))
 
 reach-open-requires-2 : tie.Need-reach-open-requires-2
-reach-open-requires-2 c κs = labelled-begun patternLabel (c .before .before .before .before .before .args .pattern .now) (fine-pattern (c .before .before .before .before .before .args .pattern .now) (c .before .before .before .before .before .pre))
+reach-open-requires-2 c κs = pattern-begun (c .before .before .before .before .before .args .pattern .now) (c .before .before .before .before .before .pre)
 
 returns-3 : tie.Need-returns-3
 returns-3 c =
