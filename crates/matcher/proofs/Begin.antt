@@ -29,20 +29,20 @@ begins-done (c ∷ p) k f e = rw (no-items k e)
 pub begins-more : (p k : List ℕ) → (length p ≡ 0 → ⊥) → (length k ≡ 0 → ⊥) → beginsLabel p k ≡ eqb (getD p 0 0) star || (eqb (getD p 0 0) (getD k 0 0) && beginsLabel (rest p) (rest k))
 begins-more p k f g = ap₂ beginsLabel (split p f) (split k g)
 
-pub can-end : (p k : List ℕ) → length p ≡ 0 → Begun k → eqb (length k) 0 ≡ beginsLabels (labelsOf p) (labelsOf k)
-can-end p [] e b = rw (no-labels p e)
-can-end p (x ∷ k) e b = rw (no-labels p e) (eqb·suc-zero (length k) ∙ sym (some-labels (x ∷ k) (λ z. absurd (omega arith)) b))
+pub labels-end : (p k : List ℕ) → length p ≡ 0 → Begun k → eqb (length k) 0 ≡ beginsLabels (labelsOf p) (labelsOf k)
+labels-end p [] e b = rw (no-labels p e)
+labels-end p (x ∷ k) e b = rw (no-labels p e) (eqb·suc-zero (length k) ∙ sym (some-labels (x ∷ k) (λ z. absurd (omega arith)) b))
 
-pub can-done : (p k : List ℕ) → (length p ≡ 0 → ⊥) → Begun p → length k ≡ 0 → true ≡ beginsLabels (labelsOf p) (labelsOf k)
-can-done p k f b e = rw (no-labels k e) (go (labelsOf p) (some-labels p f b))
+pub labels-done : (p k : List ℕ) → (length p ≡ 0 → ⊥) → Begun p → length k ≡ 0 → true ≡ beginsLabels (labelsOf p) (labelsOf k)
+labels-done p k f b e = rw (no-labels k e) (go (labelsOf p) (some-labels p f b))
   where
     go : (ps : List (List ℕ)) → none ps ≡ false → true ≡ beginsLabels ps []
     go [] h = refl
     go (q ∷ ps) h = refl
 
-pub can-more : (p k : List ℕ) (a b : ℕ) → Cut p a → Cut k b
+pub labels-more : (p k : List ℕ) (a b : ℕ) → Cut p a → Cut k b
     → beginsLabels (labelsOf p) (labelsOf k) ≡ deep (front p a) || cond (none (labelsOf (back k b))) (beginsLabel (front p a) (front k b)) (fitsLabel (front p a) (front k b) && beginsLabels (labelsOf (back p a)) (labelsOf (back k b)))
-can-more p k a b h g = ap₂ beginsLabels (h .labels) (g .labels)
+labels-more p k a b h g = ap₂ beginsLabels (h .labels) (g .labels)
 
 pub last-cut : (k : List ℕ) (b : ℕ) → b ≡ length k → none (labelsOf (back k b)) ≡ true
 last-cut k b e = rw (no-labels (back k b) (length-back k b ∙ omega arith))

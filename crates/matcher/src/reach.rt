@@ -24,7 +24,7 @@ pub enum Answer {
 }
 
 // Can a label that begins with k fit a label of a pattern?
-fn begins(p: &[u8], k: &[u8]) -> bool
+fn label_begins(p: &[u8], k: &[u8]) -> bool
     ensures { λ r. ⌜ r ≡ beginsLabel (now (p .entry)) (now (k .entry)) ⌝ }
 {
     if p.len() == 0 {
@@ -37,13 +37,13 @@ fn begins(p: &[u8], k: &[u8]) -> bool
         return true;
     }
     if p[0] == k[0] {
-        return begins(&p[1..], &k[1..]);
+        return label_begins(&p[1..], &k[1..]);
     }
     false
 }
 
 // Can labels, of which the last may go on, fit the pattern that remains?
-fn can(pattern: &[u8], known: &[u8]) -> bool
+fn labels_begin(pattern: &[u8], known: &[u8]) -> bool
     requires { ⌜ Begun (now pattern) × Begun (now known) ⌝ }
     ensures { λ r. ⌜ r ≡ beginsLabels (labelsOf (now (pattern .entry))) (labelsOf (now (known .entry))) ⌝ }
 {
@@ -59,10 +59,10 @@ fn can(pattern: &[u8], known: &[u8]) -> bool
         return true;
     }
     if b == known.len() {
-        return begins(&pattern[1..a], &known[1..b]);
+        return label_begins(&pattern[1..a], &known[1..b]);
     }
     if label_fits(&pattern[1..a], &known[1..b]) {
-        return can(&pattern[a..], &known[b..]);
+        return labels_begin(&pattern[a..], &known[b..]);
     }
     false
 }
@@ -89,7 +89,7 @@ fn reach_open(pattern: &[u8], known: &[u8]) -> Answer
     if !begins_path(known) {
         return Answer::Mismatch;
     }
-    if can(pattern, known) {
+    if labels_begin(pattern, known) {
         return Answer::Incomplete;
     }
     Answer::Mismatch
