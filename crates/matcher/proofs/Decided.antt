@@ -20,7 +20,7 @@ use Rattle.matcher.specs.Inner.{Begun}
 use Rattle.matcher.specs.declared.reach.Answer.{Answer}
 use Rattle.matcher.specs.declared.reach.Answer.the-variants.{Match, Mismatch, Incomplete}
 use Rattle.matcher.proofs.Bools.{not-both, and-left, and-right, and-true}
-use Rattle.matcher.proofs.Parts.{no-items, not-none}
+use Rattle.matcher.proofs.Parts.{no-items, not-none, last-place}
 use Rattle.matcher.proofs.Forms.{fine-path, fine-pattern, matches-pattern, matches-path, matches-fits, labelled-all}
 use Rattle.matcher.proofs.Apart.{lastByte}
 use Rattle.matcher.proofs.Goes.{begins-all, goes-all}
@@ -68,11 +68,8 @@ last-split : (known : List ℕ) → ended known ≡ true → known ≡ take (len
 last-split known e =
     let l = ended-last known e in
     let n = length known - 1 in
-    split-at known n 0 (below (length known) (l .0)) ∙ ap₂ (λ (x : ℕ) (t : List ℕ). take n known ++ (x ∷ t)) (l .1) (drop-of-length-le known (above (length known)))
+    split-at known n 0 (last-place (length known) (l .0)) ∙ ap₂ (λ (x : ℕ) (t : List ℕ). take n known ++ (x ∷ t)) (l .1) (drop-of-length-le known (above (length known)))
   where
-    below : (n : ℕ) → (n ≡ 0 → ⊥) → n - 1 < n
-    below n f = omega arith
-
     above : (n : ℕ) → n ≤ suc (n - 1)
     above n = omega arith
 

@@ -63,3 +63,7 @@ back-back s a b = tail-part b (back s a) ∙ ap (drop b) (tail-part a s) ∙ dro
 
 pub back-end : (s : List ℕ) (i : ℕ) → length s ≤ i → length (back s i) ≡ 0
 back-end s i l = length-back s i ∙ omega arith
+
+-- the place of the last element
+pub last-place : (n : ℕ) → (n ≡ 0 → ⊥) → n - 1 < n
+last-place n f = omega arith

@@ -15,6 +15,7 @@ use Rattle.matcher.specs.Bytes.{slash, endByte, labelByte}
 use Rattle.matcher.specs.Form.{apart, formedPath}
 use Rattle.matcher.specs.Reach.{beginsPath}
 use Rattle.matcher.proofs.Bools.{not-both, and-left, and-right, and-true}
+use Rattle.matcher.proofs.Parts.{last-place}
 use Rattle.matcher.proofs.Apart.{mayStand, lastByte, formed-bytes, ends-label}
 use Rattle.matcher.proofs.Goes.{filler, x-byte, all-left}
 use Rattle.matcher.proofs.Joined.{byte-not}
@@ -119,11 +120,8 @@ module _ (known path more : List ℕ) (is-path : formedPath path ≡ true) (goes
   -- where the last byte known is the end byte, the path is known whole
   pub closed-path : (length known ≡ 0 → ⊥) → lastByte known ≡ endByte → known ≡ path ++ (endByte ∷ [])
   closed-path f e = ⊎-elim (λ z. z)
-      (λ z. not-both (all-at noEnd known (length known - 1) (pos (length known) f) (all-left noEnd known (z .0) (rw (z .1) (apart-no-end path (formed-apart path is-path))))) (rw e))
+      (λ z. not-both (all-at noEnd known (length known - 1) (last-place (length known) f) (all-left noEnd known (z .0) (rw (z .1) (apart-no-end path (formed-apart path is-path))))) (rw e))
       (ends known more path goes-on)
-    where
-      pos : (n : ℕ) → (n ≡ 0 → ⊥) → n - 1 < n
-      pos n f = omega arith
 
   -- elsewhere it goes on
   pub open-path : (known ≡ path ++ (endByte ∷ []) → ⊥) → (n : List ℕ) × (known ++ n ≡ path)

@@ -17,12 +17,12 @@ use Rattle.matcher.specs.declared.fit.Trial.the-variants.{Fits, Fails, N
 use Rattle.matcher.proofs.Bools.{and-false, or-false, or-left, or-left-false, or-right-false}
 use Rattle.matcher.proofs.Parts.{rest, split, no-items}
 
-module _ {B : Type 0} (k : List B → Bool) where
-  -- where k never holds, it does not hold now
-  pub never-now : (s : List B) → afterSome k s ≡ false → k s ≡ false
-  never-now [] e = e
-  never-now (x ∷ s) e = or-left-false (k (x ∷ s)) (afterSome k s) e
+-- where k never holds, it does not hold now
+never-now : {B : Type 0} (k : List B → Bool) (s : List B) → afterSome k s ≡ false → k s ≡ false
+never-now k [] e = e
+never-now k (x ∷ s) e = or-left-false (k (x ∷ s)) (afterSome k s) e
 
+module _ {B : Type 0} (k : List B → Bool) where
   pub now-some : (s : List B) → k s ≡ true → afterSome k s ≡ true
   now-some [] e = e
   now-some (x ∷ s) e = or-left (k (x ∷ s)) (afterSome k s) e
@@ -31,7 +31,7 @@ module _ {B : Type 0} (k : List B → Bool) where
   pub says-is : (s : List B) (r : Trial) → Says k s r → isFit r ≡ k s
   says-is s Fits e = sym e
   says-is s Fails e = sym e
-  says-is s Never e = sym (never-now s e)
+  says-is s Never e = sym (never-now k s e)
 
   -- what never holds after some are taken never holds after some and some are taken
   pub never-twice : (s : List B) → afterSome k s ≡ false → afterSome (afterSome k) s ≡ false
@@ -42,11 +42,7 @@ module _ {B : Type 0} (k : List B → Bool) where
   pub wild-on : (x : B) (s : List B) (r : Trial) → k (x ∷ s) ≡ false → Says (afterSome k) s r → Says (afterSome k) (x ∷ s) r
   wild-on x s Fits e h = rw (e, h)
   wild-on x s Fails e h = rw (e, h)
-  wild-on x s Never e h = or-false (k (x ∷ s) || afterSome k s) (afterSome (afterSome k) s) (or-false (k (x ∷ s)) (afterSome k s) e (never-now′ s h)) h
-    where
-      never-now′ : (t : List B) → afterSome (afterSome k) t ≡ false → afterSome k t ≡ false
-      never-now′ [] e = e
-      never-now′ (y ∷ t) e = or-left-false (afterSome k (y ∷ t)) (afterSome (afterSome k) t) e
+  wild-on x s Never e h = or-false (k (x ∷ s) || afterSome k s) (afterSome (afterSome k) s) (or-false (k (x ∷ s)) (afterSome k s) e (never-now (afterSome k) s h)) h
 
   -- an answer for what is left of s, t, is the answer for all of s
   abbrev pub Passes : List B → List B → Type 0
@@ -68,14 +64,14 @@ module _ {B : Type 0} (k : List B → Bool) where
     pub never-first : (s : List B) → afterSome k s ≡ false → afterSome (first f k) s ≡ false
     never-first [] e = refl
     never-first (x ∷ s) e = or-false (f x && k s) (afterSome (first f k) s)
-        (and-false (f x) (k s) (never-now s (or-right-false (k (x ∷ s)) (afterSome k s) e)))
+        (and-false (f x) (k s) (never-now k s (or-right-false (k (x ∷ s)) (afterSome k s) e)))
         (never-first s (or-right-false (k (x ∷ s)) (afterSome k s) e))
 
     -- an element passes f: the answer for the rest is the answer
     pub first-on : (x : B) (s : List B) (r : Trial) → f x ≡ true → Says k s r → Says (first f k) (x ∷ s) r
     first-on x s Fits e h = rw (e, h)
     first-on x s Fails e h = rw (e, h)
-    first-on x s Never e h = or-false (f x && k s) (afterSome (first f k) s) (and-false (f x) (k s) (never-now s h)) (never-first s h)
+    first-on x s Never e h = or-false (f x && k s) (afterSome (first f k) s) (and-false (f x) (k s) (never-now k s h)) (never-first s h)
 
     pub first-off : (x : B) (s : List B) → f x ≡ false → first f k (x ∷ s) ≡ false
     first-off x s e = rw e

@@ -1,3 +1,4 @@
+-- What a reader must believe, from the bytes up. `Reading` and `Worked` show what it means, and `Inner` is for the private functions.
 pub mod Bytes
 pub mod Labels
 pub mod Form
