@@ -1,0 +1,24 @@
+-- `matcher::reach::reach_open` meets its contract: the tests are the factors of `reachOpen`.
+-- Assumes nothing.
+use mathlib.Core.Path.{sym, _∙_}
+use borrow.Author.Tests.{not-true, not-false}
+use borrow.Author.Needs.{needs}
+use Rattle.matcher.proofs.Decided.{begins-begun}
+use Rattle.matcher.proofs.reach.reach_open.Statement.{statement}
+use Rattle.matcher.proofs.reach.reach_open.Tie as tie
+
+returns : tie.Need-returns
+returns c = rw (sym (c .before .begins-path .ensures) ∙ not-true _ (c .if1 .taken))
+
+labels-begin-requires : tie.Need-labels-begin-requires
+labels-begin-requires c κs = (c .before .before .before .before .pre, begins-begun (c .before .before .before .before .args .known .now) (sym (c .before .begins-path .ensures) ∙ not-false _ (c .if1 .left)))
+
+returns-2 : tie.Need-returns-2
+returns-2 c = rw (sym (c .before .before .before .begins-path .ensures) ∙ not-false _ (c .before .before .if1 .left), sym (c .before .labels-begin .ensures) ∙ c .if2 .taken)
+
+returns-3 : tie.Need-returns-3
+returns-3 c = rw (sym (c .before .before .before .begins-path .ensures) ∙ not-false _ (c .before .before .if1 .left), sym (c .before .labels-begin .ensures) ∙ c .if2 .left)
+
+pub reach-open-spec : {M : Type 1} → statement M
+reach-open-spec =
+    tie.close (tie.spec (λ c κs. search needs) returns labels-begin-requires returns-2 returns-3)

@@ -1,0 +1,28 @@
+-- The bytes with a meaning of their own, the sizes, and the bytes of a label. Assumes nothing: these are definitions.
+use Prim.Native.Nat.{ℕ}
+use mathlib.Core.Bool.{Bool, not, _&&_, _||_}
+use lib.Dec.{eqb, leb}
+
+-- `/`
+abbrev pub slash : ℕ
+slash = 0x2F
+
+-- `*`
+abbrev pub star : ℕ
+star = 0x2A
+
+-- the end byte, which follows a path inside the index
+abbrev pub endByte : ℕ
+endByte = 0x00
+
+-- the most bytes of a path, and of a pattern
+abbrev pub pathLimit : ℕ
+pathLimit = 200
+
+-- the most labels of a pattern
+abbrev pub patternLabelLimit : ℕ
+patternLabelLimit = 32
+
+-- a byte of a label: 20 to 7E or 80 to FF hex, other than `/` and `*`
+unfoldable pub labelByte : ℕ → Bool
+labelByte c = ((leb 0x20 c && leb c 0x7E) || (leb 0x80 c && leb c 0xFF)) && (not (eqb c slash) && not (eqb c star))

@@ -1,0 +1,56 @@
+-- The answer about known bytes as a test that computes. That it says what it means, `Told`, is proved of every pattern and all known
+-- bytes (`proofs/Decided.antt`). Assumes nothing: these are definitions.
+use Prim.Native.Nat.{ℕ, _-_}
+use mathlib.Core.Path.{_≡_}
+use mathlib.Core.List.{List, [], _∷_}
+use mathlib.Core.Bool.{Bool, true, false, cond, _&&_, _||_}
+use lib.ListN.{length, take, getD}
+use lib.Dec.{eqb}
+use Rattle.buffer.specs.Lists.{none}
+use Rattle.matcher.specs.Bytes.{slash, star}
+use Rattle.matcher.specs.Labels.{labelsOf, deep}
+use Rattle.matcher.specs.Fit.{fitsLabel, fitsPath}
+use Rattle.matcher.specs.Form.{apart, formedPath, patternForm, isFine}
+use Rattle.matcher.specs.Continued.{ended, Told}
+use Rattle.matcher.specs.declared.reach.Answer.{Answer}
+use Rattle.matcher.specs.declared.reach.Answer.the-variants.{Match, Mismatch, Incomplete}
+
+-- bytes that begin a path: `/` first, then label bytes and `/`, of which no two stand together
+abbrev pub beginsPath : List ℕ → Bool
+beginsPath known = none known || (eqb (getD known 0 0) slash && apart slash known)
+
+-- a label that may go on: its bytes agree with the pattern's up to the first `*`, after which all may follow
+abbrev pub beginsLabel : List ℕ → List ℕ → Bool
+beginsLabel [] k = none k
+beginsLabel (c ∷ p) [] = true
+beginsLabel (c ∷ p) (x ∷ k) = eqb c star || (eqb c x && beginsLabel p k)
+
+-- labels of which the last may go on: they agree with the pattern's up to the first `**`, after which all may follow
+abbrev pub beginsLabels : List (List ℕ) → List (List ℕ) → Bool
+beginsLabels [] ks = none ks
+beginsLabels (p ∷ ps) [] = true
+beginsLabels (p ∷ ps) (k ∷ ks) = deep p || cond (none ks) (beginsLabel p k) (fitsLabel p k && beginsLabels ps ks)
+
+-- with the end byte the path is whole, and matches or does not
+abbrev pub reachWhole : List ℕ → List ℕ → Answer
+reachWhole pattern path = cond (formedPath path && fitsPath pattern path) Match Mismatch
+
+-- without it the path goes on
+abbrev pub reachOpen : List ℕ → List ℕ → Answer
+reachOpen pattern known = cond (beginsPath known && beginsLabels (labelsOf pattern) (labelsOf known)) Incomplete Mismatch
+
+-- the answer; for a pattern that is not formed it is a mismatch
+unfoldable pub reachOf : List ℕ → List ℕ → Answer
+reachOf pattern known =
+    cond (isFine (patternForm pattern)) (cond (ended known) (reachWhole pattern (take (length known - 1) known)) (reachOpen pattern known)) Mismatch
+
+-- the answer is not a mismatch: a child is entered where this holds of the bytes known at its parent with the branching byte added
+abbrev pub goesOn : Answer → Bool
+goesOn Match = true
+goesOn Incomplete = true
+goesOn Mismatch = false
+
+-- what `reach` promises of its answer
+pub record Reached (pattern known : List ℕ) (r : Answer) : Type 0 where
+  pub is : r ≡ reachOf pattern known
+  pub told : Told pattern known r

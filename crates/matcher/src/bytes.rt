@@ -1,0 +1,24 @@
+// The bytes with a meaning of their own, the sizes, and the bytes of a label.
+use crate::marks::LABEL_BYTES;
+ghost use mathlib.Core.Path.{_≡_};
+ghost use Rattle.matcher.specs.Bytes.{labelByte};
+
+// `/` begins a label, `*` and `**` are wild, and END follows a path inside the index.
+pub const SLASH: u8 = 0x2F;
+
+pub const STAR: u8 = 0x2A;
+
+pub const END: u8 = 0x00;
+
+// The most bytes of a path, and of a pattern.
+pub const PATH_LIMIT: usize = 200;
+
+// The most labels of a pattern.
+pub const PATTERN_LABEL_LIMIT: usize = 32;
+
+// May a label of a path hold this byte? Callers know only the range rule, not the table.
+pub fn label_byte(b: u8) -> bool
+    ensures { λ r. ⌜ r ≡ labelByte b ⌝ }
+{
+    LABEL_BYTES[b as usize] == 1
+}
