@@ -51,16 +51,12 @@ fn make(n: usize, values: u64, paths: u64, seed: u64) -> Vec<Record> {
         .collect()
 }
 
-fn best(times: usize, given: &[Record], mut f: impl FnMut(&mut [Record])) -> (f64, Vec<Record>) {
-    let mut out = given.to_vec();
-    let mut least = f64::INFINITY;
-    for _ in 0..times {
-        out.copy_from_slice(given);
-        let start = Instant::now();
-        f(&mut out);
-        least = least.min(start.elapsed().as_secs_f64());
-    }
-    (least, out)
+// Sorts a copy of the records and keeps the least time.
+fn timed(given: &[Record], out: &mut [Record], least: &mut f64, f: impl Fn(&mut [Record])) {
+    out.copy_from_slice(given);
+    let start = Instant::now();
+    f(out);
+    *least = least.min(start.elapsed().as_secs_f64());
 }
 
 fn main() {
@@ -68,9 +64,13 @@ fn main() {
     for n in [1_000usize, 10_000, 100_000] {
         for (kind, values, paths) in [("random values", 0, 0), ("100 values, own paths", 100, 0), ("100 values, 50 paths", 100, 50)] {
             let given = make(n, values, paths, 7);
-            let times = if n == 100_000 { 5 } else { 20 };
-            let (a, x) = best(times, &given, rattle_sort);
-            let (b, y) = best(times, &given, |s| s.sort_unstable_by(compare));
+            let (mut x, mut y) = (given.clone(), given.clone());
+            let (mut a, mut b) = (f64::INFINITY, f64::INFINITY);
+            // By turns, so that other load on the machine meets both.
+            for _ in 0..if n == 100_000 { 8 } else { 40 } {
+                timed(&given, &mut x, &mut a, rattle_sort);
+                timed(&given, &mut y, &mut b, |s| s.sort_unstable_by(compare));
+            }
             assert!(x == y, "results differ");
             println!("{:7}  {:24} {:10.3} {:9.3} {:6.2}", n, kind, a * 1e3, b * 1e3, a / b);
         }

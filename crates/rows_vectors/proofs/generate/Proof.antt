@@ -1,7 +1,6 @@
 -- Indices inside the record. Assumes nothing.
 use native.Mathlib.Omega.{arith}
-use Prim.Native.Nat.{_-_}
-use lib.ListN.{length, length-set}
+use lib.ListN.{length-set}
 use borrow.Author.Needs.{needs}
 use Rattle.rows_vectors.proofs.generate.Statement.{statement}
 use Rattle.rows_vectors.proofs.generate.Tie as tie

@@ -1,8 +1,7 @@
 -- Indices inside the row. Assumes nothing.
 use native.Mathlib.Omega.{arith}
-use Prim.Native.Nat.{_-_}
 use mathlib.Core.Path.{_∙_}
-use lib.ListN.{length, length-set}
+use lib.ListN.{length-set}
 use borrow.Author.Needs.{needs}
 use Rattle.rows_vectors.proofs.put.Statement.{statement}
 use Rattle.rows_vectors.proofs.put.Tie as tie
