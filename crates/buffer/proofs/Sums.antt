@@ -1,6 +1,6 @@
 -- Sums over a list: the one form in which "nothing is lost or added" is proved. A count of those that pass a test, a length
 -- and a number of bytes are sums.
-use Prim.Native.Nat.{ℕ, _+_, _*_, _≤_}
+use Prim.Native.Nat.{ℕ, suc, _+_, _*_, _≤_}
 use mathlib.Core.Path.{_≡_, refl, sym, ap, _∙_}
 use mathlib.Core.Bool.{Bool, true, false, cond, _||_, true≢false}
 use mathlib.Core.List.{List, [], _∷_, _++_, map}
@@ -9,7 +9,7 @@ use native.Mathlib.Omega.{arith}
 use lib.ListN.{length}
 use lib.Dec.{ltb}
 use borrow.Author.Tests.{lt-ltb}
-use Rattle.buffer.specs.Lists.{All, nil, cons, any, pick, sum}
+use Rattle.buffer.specs.Lists.{All, nil, cons, any, pick, sum, count}
 use Rattle.buffer.proofs.Lists.{all-imp}
 
 module _ {A : Type 0} (h : A → ℕ) where
@@ -127,3 +127,14 @@ module _ {A : Type 0} (xs ys : List A) (equal : (h : A → ℕ) → sum h xs ≡
 
   pub equal-any : (t : A → Bool) → any t xs ≡ any t ys
   equal-any t = any-positive t xs ∙ ap (ltb 0) (equal (λ x. cond (t x) 1 0)) ∙ sym (any-positive t ys)
+
+-- a count is a sum
+pub count-sum : {A : Type 0} (t : A → Bool) (xs : List A) → count t xs ≡ sum (λ x. cond (t x) 1 0) xs
+unfolding count sum
+count-sum t [] = refl
+count-sum t (x ∷ xs) = go (t x) (count-sum t xs)
+  where
+    go : (b : Bool) → count t xs ≡ sum (λ x. cond (t x) 1 0) xs
+        → cond b (suc (count t xs)) (count t xs) ≡ cond b 1 0 + sum (λ x. cond (t x) 1 0) xs
+    go true e = omega arith
+    go false e = omega arith

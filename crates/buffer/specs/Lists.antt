@@ -1,5 +1,5 @@
 -- Small words about lists: what holds of every element, what is picked, how many there are. Assumes nothing: these are definitions.
-use Prim.Native.Nat.{ℕ, _+_}
+use Prim.Native.Nat.{ℕ, suc, _+_}
 use mathlib.Core.Bool.{Bool, true, false, cond, _&&_, _||_}
 use mathlib.Core.List.{List, [], _∷_, _++_}
 
@@ -35,7 +35,8 @@ sum h (x ∷ xs) = h x + sum h xs
 
 -- how many pass the test
 unfoldable pub count : {A : Type 0} → (A → Bool) → List A → ℕ
-count t xs = sum (λ x. cond (t x) 1 0) xs
+count t [] = 0
+count t (x ∷ xs) = cond (t x) (suc (count t xs)) (count t xs)
 
 -- lists one after the other
 unfoldable pub flat : {A : Type 0} → List (List A) → List A

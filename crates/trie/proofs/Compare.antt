@@ -10,7 +10,6 @@ use lib.Seq.{drop-cons, drop-length}
 use lib.Dec.{eqb}
 use borrow.Author.Tests.{eq-eqb, ne-eqb}
 use Rattle.buffer.proofs.Tests.{and-right}
-use Rattle.buffer.specs.Lists.{same}
 use Rattle.trie_theory.specs.Strings.{begins, common, first}
 use Rattle.trie_theory.specs.Dimensions.{branching}
 use Rattle.trie_theory.proofs.Strings.{first-at}
@@ -46,25 +45,6 @@ module _ (p s : List ℕ) (i : ℕ) (inp : i < length p) (ins : i < length s) wh
 
   pub begins-off : (getD p i 0 ≡ getD s i 0 → ⊥) → begins (drop i p) (drop i s) ≡ false
   begins-off n = rw (drop-cons p i 0 inp, drop-cons s i 0 ins, begins-cons, ne-eqb (getD p i 0) (getD s i 0) n)
-
--- strings of one length are the same where one begins with the other
-pub same-begins : (a b : List ℕ) → length a ≡ length b → same eqb a b ≡ begins a b
-unfolding same begins
-same-begins [] [] h = refl
-same-begins [] (y ∷ b) h = absurd (omega arith)
-same-begins (x ∷ a) [] h = absurd (omega arith)
-same-begins (x ∷ a) (y ∷ b) h = ap (λ (t : Bool). eqb x y && t) (same-begins a b (omega arith))
-
-pub same-longer : (a b : List ℕ) → (length a ≡ length b → ⊥) → same eqb a b ≡ false
-unfolding same
-same-longer [] [] h = absurd (h refl)
-same-longer [] (y ∷ b) h = refl
-same-longer (x ∷ a) [] h = refl
-same-longer (x ∷ a) (y ∷ b) h = go (eqb x y) (same-longer a b (λ e. h (ap suc e)))
-  where
-    go : (t : Bool) → same eqb a b ≡ false → t && same eqb a b ≡ false
-    go true e = e
-    go false e = refl
 
 -- ---- what two strings have in common, after i equal bytes
 

@@ -2,8 +2,6 @@
 ghost use mathlib.Core.Path.{_≡_};
 ghost use Prim.Native.Nat.{_≤_};
 ghost use lib.ListN.{length};
-ghost use lib.Dec.{eqb};
-ghost use Rattle.buffer.specs.Lists.{same};
 ghost use Rattle.trie_theory.specs.Strings.{begins, common, first};
 ghost use Rattle.trie_theory.specs.Dimensions.{branching};
 ghost use Rattle.trie.specs.Shape.{aboveOf};
@@ -24,16 +22,6 @@ pub fn begins(p: &[u8], s: &[u8]) -> bool
         i += 1;
     }
     true
-}
-
-// Are they the same?
-pub fn equal(a: &[u8], b: &[u8]) -> bool
-    ensures { λ r. ⌜ r ≡ same eqb (now (a .entry)) (now (b .entry)) ⌝ }
-{
-    if a.len() != b.len() {
-        return false;
-    }
-    begins(a, b)
 }
 
 // How many bytes both begin with.

@@ -1,6 +1,6 @@
 // The suffixes of a leaf, one after another: v | p | reference, 20 bytes | v value bytes | p path bytes.
 use crate::head::wide;
-use crate::strings::equal;
+use rows::order::equal;
 ghost use mathlib.Core.Path.{_≡_};
 ghost use Prim.Native.Nat.{_≤_};
 ghost use mathlib.Core.List.{List};

@@ -1,7 +1,7 @@
 -- LEVELS AND SMALL TRIES ARE TRIES OF THEIR KEYS, for any number of dimensions, and of entries: at most 245 bytes for each,
 -- and at most 210 nodes one below the other.
 use Prim.Native.Nat.{ℕ, _+_, _*_, _≤_}
-use mathlib.Core.Path.{_≡_, ap, _∙_}
+use mathlib.Core.Path.{_≡_, sym, ap, _∙_}
 use mathlib.Core.Bool.{Bool, true, cond}
 use mathlib.Core.List.{List, []}
 use native.Mathlib.Omega.{arith}
@@ -9,7 +9,7 @@ use lib.ListN.{length}
 use lib.Dec.{eqb, leb}
 use borrow.Author.Tests.{eqb-true, eq-eqb, leb-true, le-leb}
 use Rattle.trie_theory.specs.Forest.{Key, Forest, keys}
-use Rattle.buffer.specs.Lists.{All, sum, count}
+use Rattle.buffer.specs.Lists.{All, pick, sum, count}
 use Rattle.trie_theory.specs.Strings.{total}
 use Rattle.trie_theory.specs.Dimensions.{root}
 use Rattle.trie_theory.specs.Level.{levelOf}
@@ -21,7 +21,7 @@ use Rattle.trie_theory.specs.Size.{height}
 use Rattle.trie_theory.specs.Entries.{complete, Stops, dims, Entry}
 use Rattle.trie_theory.specs.TrieOf.{TrieOf}
 use Rattle.buffer.proofs.Lists.{all-imp}
-use Rattle.buffer.proofs.Sums.{equal-length, equal-picked, equal-all, equal-any}
+use Rattle.buffer.proofs.Sums.{count-sum, equal-length, equal-picked, equal-all, equal-any}
 use Rattle.trie_theory.proofs.Search.{found-all}
 use Rattle.trie_theory.proofs.SoundLaws.{nodes-known, height-bound, cost-bound}
 use Rattle.trie_theory.proofs.Lookup.{member-among}
@@ -33,10 +33,14 @@ use Rattle.trie_theory.proofs.Complete.{dims-stop, entry-total, entry-w
 use Rattle.trie_theory.proofs.SmallKept.{small-sum}
 use Rattle.trie_theory.proofs.SmallBare.{small-small}
 
+-- equal sums of the test are equal counts
+counted : (p : Key → Bool) (xs ys : List Key) → sum (λ x. cond (p x) 1 0) xs ≡ sum (λ x. cond (p x) 1 0) ys → count p xs ≡ count p ys
+counted p xs ys e = count-sum p xs ∙ e ∙ sym (count-sum p ys)
+
 -- A SOUND TRIE with the keys xs, each as often
 pub sound-trie : (n m : ℕ) (xs : List Key) (t : Forest) → Sound n root t → ((h : Key → ℕ) → sum h (keys [] t) ≡ sum h xs)
     → All (λ x. total (x .strings) ≤ m) xs → All Twenty xs → TrieOf n m xs t
-unfolding count among
+unfolding among
 sound-trie n m xs t s equal short named =
     let short-keys : All (λ x. total (x .strings) ≤ m) (keys [] t) =
     equal-all (keys [] t) xs equal (λ x. leb (total (x .strings)) m) (λ x. total (x .strings) ≤ m)
@@ -47,10 +51,11 @@ sound-trie n m xs t s equal short named =
     let many = equal-length (keys [] t) xs equal in
     record {
       sound = s;
-      kept = λ p. equal (λ x. cond (p x) 1 0);
+      kept = λ p. counted p (keys [] t) xs (equal (λ x. cond (p x) 1 0));
       lookup = λ x. member-among n root t x s ∙ equal-any (keys [] t) xs equal (sameKey x);
       search = λ reach matching sees p.
-          ap (count p) (found-all reach matching sees root [] t) ∙ equal-picked (keys [] t) xs equal matching (λ x. cond (p x) 1 0);
+          ap (count p) (found-all reach matching sees root [] t)
+          ∙ counted p (pick matching (keys [] t)) (pick matching xs) (equal-picked (keys [] t) xs equal matching (λ x. cond (p x) 1 0));
       few = omega (arith, nodes-known n root [] t s);
       high = height-bound m n t s short-keys;
       size =
