@@ -1,8 +1,0 @@
-pub mod Stretch
-pub mod Node
-pub mod Compare
-pub mod Suffix
-pub mod Among
-pub mod Walking
-pub mod Seeking
-pub mod Alone

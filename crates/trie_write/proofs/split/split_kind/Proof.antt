@@ -1,0 +1,15 @@
+-- By cases on the node above and on what the node keeps. Assumes nothing.
+use native.Mathlib.Omega.{arith}
+use Rattle.trie_write.proofs.Differing.{path-wanted, value-left, value-wanted, path-left, none-left}
+use Rattle.trie_write.proofs.split.split_kind.Statement.{statement}
+use Rattle.trie_write.proofs.split.split_kind.Tie as tie
+
+pub split-kind-spec : {M : Type 1} → statement M
+split-kind-spec =
+    tie.close
+    (tie.spec
+    (λ c. path-wanted _ _ _ (c .before .if1 .taken) (c .if2 .taken))
+    (λ c. value-left _ _ _ (c .before .if1 .taken) (c .if2 .left))
+    (λ c. value-wanted _ _ _ (c .before .before .pre) (c .before .if1 .left) (c .if3 .taken))
+    (λ c. path-left _ _ _ (c .before .before .before .pre) (c .before .before .if1 .left) (c .before .if3 .left) (c .if4 .taken))
+    (λ c. none-left _ _ _ (c .before .before .before .pre) (c .before .before .if1 .left) (c .before .if3 .left) (c .if4 .left)))
