@@ -1,0 +1,5 @@
+pub mod Scan
+mod Reading
+pub mod Hex
+pub mod Writing
+pub mod Decimals
