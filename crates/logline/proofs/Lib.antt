@@ -3,3 +3,4 @@ mod Reading
 pub mod Hex
 pub mod Writing
 pub mod Decimals
+pub mod Feeding

@@ -4,14 +4,14 @@ use mathlib.Core.Bool.{Bool, true, false, cond}
 use mathlib.Core.List.{List, [], _∷_}
 use Prim.Native.Nat.{ℕ, _+_, _-_, _≤_, _<_}
 use native.Mathlib.Omega.{arith}
-use lib.ListN.{length, take, drop, length-drop}
+use lib.ListN.{length, take, drop, length-drop, drop-of-length-le}
 use lib.Seq.{drop-drop, take-all}
 use lib.Dec.{ltb}
 use borrow.Author.Tests.{lt-ltb, le-ltb}
 use Rattle.buffer.specs.Splice.{region}
 use Rattle.buffer.proofs.Splice.{length-region}
 use Rattle.logline.specs.Fields.{width, Ends, isReference}
-use Rattle.logline.specs.Meaning.{Meaning, withField, meant, Says}
+use Rattle.logline.specs.Meaning.{Meaning, withField, meaning, meant, Says}
 use Rattle.logline.specs.Meaning.Meaning.{misread}
 use Rattle.logline.specs.declared.command.Command.the-variants.{Misread}
 use Rattle.logline.proofs.Scan.{reference-length}
@@ -48,3 +48,14 @@ module _ (s : List ℕ) (at : ℕ) where
 
   pub shorter : length s - at ≤ 512 → ltb 512 (length (drop at s)) ≡ false
   shorter h = le-ltb 512 (length (drop at s)) (rw length-drop h)
+
+  -- past the end
+  module _ (h : length s < at) where
+    pub tail-beyond : [] ≡ drop at s
+    tail-beyond =
+        let k : length s ≤ at = omega arith in
+        sym (drop-of-length-le s k)
+
+    pub beyond : meaning (drop at s) ≡ misread
+    unfolding withField width
+    beyond = rw (← tail-beyond)

@@ -103,11 +103,13 @@ fn read_setup(s: &[u8], at: usize, a: usize) -> Command
     Command::Setup { m, l, tau }
 }
 
-// The line that begins at `at`, read whole.
+// The line that begins at `at`, read whole. Past the end there is an empty line.
 pub fn command_at(s: &[u8], at: usize) -> Command
-    requires { ⌜ at ≤ length (now s) ⌝ }
     ensures { λ r. ⌜ Says (now (s .entry)) (meaning (drop at (now (s .entry)))) r ⌝ }
 {
+    if s.len() < at {
+        return Command::Misread;
+    }
     if 512 < s.len() - at {
         return Command::Misread;
     }
@@ -122,4 +124,14 @@ pub fn command_at(s: &[u8], at: usize) -> Command
         return read_search(s, a + 1);
     }
     read_setup(s, at, a)
+}
+
+// All that remains of a line from `at` on.
+pub fn tail_at(s: &[u8], at: usize) -> &[u8]
+    ensures { λ r. ⌜ now r ≡ drop at (now (s .entry)) ⌝ }
+{
+    if s.len() < at {
+        return &s[0..0];
+    }
+    &s[at..]
 }

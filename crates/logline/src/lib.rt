@@ -2,3 +2,4 @@
 pub mod command;
 pub mod fields;
 pub mod spell;
+pub mod lines;
