@@ -89,7 +89,7 @@ module _ (len : ℕ) (buf begun : List ℕ) (h : Holds len buf begun) where
       let t : take (len + 1) (set buf len b) ≡ begun ++ (b ∷ []) = rw (add-one, take-suc-set buf len b room, f .1) in
       record {
         tells = rw (ne-eqb b 10 ne);
-        holds = rw (ne-eqb b 10 ne) (record { room = length-set buf len b ∙ h .room; fits = λ _. (sym n, t); over = λ o. absurd (omega arith) })
+        holds = rw (ne-eqb b 10 ne) (record { room = length-set buf len b ∙ h .room; fits = λ _. (sym n, t); over = λ o. absurd (omega arith) });
       }
 
   pub push-over : (b : ℕ) → (b ≡ 10 → ⊥) → 512 ≤ len → Fed begun b Nothing 513 buf
@@ -99,7 +99,7 @@ module _ (len : ℕ) (buf begun : List ℕ) (h : Holds len buf begun) where
       let n : length (begun ++ (b ∷ [])) ≡ length begun + 1 = length-append begun (b ∷ []) in
       record {
         tells = rw (ne-eqb b 10 ne);
-        holds = rw (ne-eqb b 10 ne) (record { room = h .room; fits = λ s. absurd (omega arith); over = λ _. refl })
+        holds = rw (ne-eqb b 10 ne) (record { room = h .room; fits = λ s. absurd (omega arith); over = λ _. refl });
       }
 
 pub event-line : (len : ℕ) → len ≤ 512 → eventOf len ≡ Line len

@@ -47,13 +47,22 @@ pub fn push(feed: Feed, buf: &mut [u8], byte: u8) -> Pushed
 {
     let len = feed.len;
     if byte == 10 {
-        return Pushed { feed: Feed { len: 0 }, event: ended(len) };
+        return Pushed {
+            feed: Feed { len: 0 },
+            event: ended(len),
+        };
     }
     if len < 512 {
         buf[len] = byte;
-        return Pushed { feed: Feed { len: len + 1 }, event: Event::Nothing };
+        return Pushed {
+            feed: Feed { len: len + 1 },
+            event: Event::Nothing,
+        };
     }
-    Pushed { feed: Feed { len: 513 }, event: Event::Nothing }
+    Pushed {
+        feed: Feed { len: 513 },
+        event: Event::Nothing,
+    }
 }
 
 // The end of the input: the last line, where its 0A is missing.
