@@ -10,7 +10,7 @@ use lib.Seq.{take-suc-set}
 use lib.Dec.{leb, eqb}
 use borrow.Author.Tests.{leb-true, leb-false, le-leb, lt-leb, eq-eqb, ne-eqb, lt-ltb}
 use Rattle.buffer.specs.Lists.{none}
-use Rattle.logline.specs.Input.{linesFrom, linesOf, Given, given, openAfter, onByte, onEnd, fed, Holds, told, eventOf, Fed, Runs}
+use Rattle.logline.specs.Input.{linesFrom, linesOf, Given, given, begunAfter, onByte, onEnd, Holds, told, eventOf, Fed, Runs}
 use Rattle.logline.specs.Input.Runs.{finishes, pushes}
 use Rattle.logline.specs.Meaning.{Meaning, meaning}
 use Rattle.logline.specs.Meaning.Meaning.{misread}
@@ -20,8 +20,13 @@ use Rattle.logline.specs.declared.lines.Event.the-variants.{Nothing, Lin
 
 -- ---- what is fed is handed over line by line
 
+-- what is handed over for the rest s of an input
+unfoldable fed : List ℕ → List ℕ → List Given
+fed begun [] = onEnd begun
+fed begun (b ∷ s) = onByte begun b ++ fed (begunAfter begun b) s
+
 fed-lines : (s begun : List ℕ) → fed begun s ≡ map given (linesFrom begun s)
-unfolding fed linesFrom onByte onEnd openAfter
+unfolding fed linesFrom onByte onEnd begunAfter
 fed-lines [] begun = go (none begun)
   where
     go : (t : Bool) → cond t [] (given begun ∷ []) ≡ map given (cond t [] (begun ∷ []))
@@ -33,10 +38,6 @@ fed-lines (b ∷ s) begun = go (eqb b 10) (fed-lines s []) (fed-lines s (begun +
         → cond t (given begun ∷ []) [] ++ fed (cond t [] (begun ++ (b ∷ []))) s ≡ map given (cond t (begun ∷ linesFrom [] s) (linesFrom (begun ++ (b ∷ [])) s))
     go true p q = ap (λ (l : List Given). given begun ∷ l) p
     go false p q = q
-
--- all bytes of an input one by one, and then its end: exactly its lines
-pub fed-all : (input : List ℕ) → fed [] input ≡ map given (linesOf input)
-fed-all input = fed-lines input []
 
 -- ---- the state
 
@@ -77,11 +78,11 @@ module _ (len : ℕ) (buf begun : List ℕ) (h : Holds len buf begun) where
 
   -- a byte: the end of the line, one byte more, or one too many
   pub push-end : (b : ℕ) → b ≡ 10 → Fed begun b (eventOf len) 0 buf
-  unfolding onByte openAfter
+  unfolding onByte begunAfter
   push-end b e = record { tells = rw (eq-eqb b 10 e) ended-tells; holds = rw (eq-eqb b 10 e) (holds-start buf (h .room)) }
 
   pub push-more : (b : ℕ) → (b ≡ 10 → ⊥) → len < 512 → Fed begun b Nothing (len + 1) (set buf len b)
-  unfolding onByte openAfter
+  unfolding onByte begunAfter
   push-more b ne k =
       let f : (len ≡ length begun) × (take len buf ≡ begun) = by-length (length begun) (h .fits) (λ o. absurd (omega (arith, h .over o))) in
       let n : length (begun ++ (b ∷ [])) ≡ len + 1 = length-append begun (b ∷ []) ∙ omega (arith, f .0) in
@@ -93,7 +94,7 @@ module _ (len : ℕ) (buf begun : List ℕ) (h : Holds len buf begun) where
       }
 
   pub push-over : (b : ℕ) → (b ≡ 10 → ⊥) → 512 ≤ len → Fed begun b Nothing 513 buf
-  unfolding onByte openAfter
+  unfolding onByte begunAfter
   push-over b ne k =
       let l : 512 ≤ length begun = by-length (length begun) (λ s. omega (arith, h .fits s .0)) (λ o. omega arith) in
       let n : length (begun ++ (b ∷ [])) ≡ length begun + 1 = length-append begun (b ∷ []) in
@@ -117,10 +118,10 @@ unfolding fed
 runs-fed (finishes {len} {buf} event f) begun h = f buf begun h
 runs-fed (pushes {len} {next} {b} {buf} {after} {s} {rest} event f r) begun h =
     let p = f begun h in
-    rw (p .tells, runs-fed r (openAfter begun b) (p .holds))
+    rw (p .tells, runs-fed r (begunAfter begun b) (p .holds))
 
 pub runs-lines : (buf input : List ℕ) (out : List Given) → length buf ≡ 512 → Runs 0 buf input out → out ≡ map given (linesOf input)
-runs-lines buf input out h r = runs-fed r [] (holds-start buf h) ∙ fed-all input
+runs-lines buf input out h r = runs-fed r [] (holds-start buf h) ∙ fed-lines input []
 
 -- ---- a line that is too long is misread
 

@@ -4,3 +4,4 @@ pub mod Hex
 pub mod Writing
 pub mod Decimals
 pub mod Feeding
+mod Cases

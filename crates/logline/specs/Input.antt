@@ -28,19 +28,14 @@ given l = cond (leb (length l) 512) (whole l) tooLong
 
 -- ---- byte by byte: the line that is begun, and what one byte or the end of the input hands over
 
-unfoldable pub openAfter : List ℕ → ℕ → List ℕ
-openAfter begun b = cond (eqb b 10) [] (begun ++ (b ∷ []))
+unfoldable pub begunAfter : List ℕ → ℕ → List ℕ
+begunAfter begun b = cond (eqb b 10) [] (begun ++ (b ∷ []))
 
 unfoldable pub onByte : List ℕ → ℕ → List Given
 onByte begun b = cond (eqb b 10) (given begun ∷ []) []
 
 unfoldable pub onEnd : List ℕ → List Given
 onEnd begun = cond (none begun) [] (given begun ∷ [])
-
--- what is handed over in all
-unfoldable pub fed : List ℕ → List ℕ → List Given
-fed begun [] = onEnd begun
-fed begun (b ∷ s) = onByte begun b ++ fed (openAfter begun b) s
 
 -- ---- the state: how many bytes the line has that is begun, with 513 for any number above 512; a buffer that begins with them
 
@@ -62,7 +57,7 @@ told Long buf = tooLong ∷ []
 -- one byte b was fed into the line that is begun: what is told, and what is held now
 pub record Fed (begun : List ℕ) (b : ℕ) (event : Event) (len : ℕ) (buf : List ℕ) : Type 0 where
   pub tells : told event buf ≡ onByte begun b
-  pub holds : Holds len buf (openAfter begun b)
+  pub holds : Holds len buf (begunAfter begun b)
 
 -- a run of `push` on each byte of an input and of `finish` at its end, by what the two promise, and what was told on the way
 pub data Runs : ℕ → List ℕ → List ℕ → List Given → Type 0 where
