@@ -1,0 +1,17 @@
+-- The three cases of a byte. Assumes nothing.
+use borrow.Author.Needs.{needs}
+use Rattle.logline.proofs.Feeding.{push-end, push-more, push-over}
+use Rattle.logline.proofs.lines.push.Statement.{statement}
+use Rattle.logline.proofs.lines.push.Tie as tie
+
+pub push-spec : {M : Type 1} → statement M
+push-spec =
+    tie.close
+    (tie.spec
+    (λ c κs. search needs)
+    (λ c begun h. rw (c .ended .ensures) (push-end _ _ begun h _ (c .before .if1 .taken)))
+    (λ c. search needs)
+    (λ c. search needs)
+    (λ c. search needs)
+    (λ c begun h. push-more _ _ begun h _ (c .before .if1 .left) (c .if2 .taken))
+    (λ c begun h. push-over _ _ begun h _ (c .before .if1 .left) (c .if2 .left)))

@@ -1,0 +1,4 @@
+pub mod Fields
+pub mod Meaning
+pub mod Spelling
+pub mod Input

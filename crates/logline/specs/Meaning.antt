@@ -1,0 +1,74 @@
+-- What a line of `fieldlog` means (document 01, `fieldlog`): `M,L,τ`, or `+,value,reference,path`, or `?,low,high,pattern`. A line is read
+-- field by field, and the path or pattern is all that remains, commas included. Assumes nothing: these are definitions.
+use Prim.Native.Nat.{ℕ, _+_, _≤_}
+use mathlib.Core.Path.{_≡_}
+use mathlib.Core.List.{List}
+use mathlib.Core.Bool.{Bool, true, false, cond}
+use lib.ListN.{length, take, drop}
+use lib.Dec.{ltb}
+use Rattle.buffer.specs.Splice.{region}
+use Rattle.logline.specs.Fields.{width, only, numberOf, isReference, unhex}
+use Rattle.logline.specs.declared.fields.Number.{Number}
+use Rattle.logline.specs.declared.fields.Number.the-variants.{Value, Not}
+use Rattle.logline.specs.declared.command.Command.{Command}
+use Rattle.logline.specs.declared.command.Command.the-variants.{Setup, Add, Search, Misread}
+
+pub data Meaning : Type 0 where
+  setup : ℕ → ℕ → ℕ → Meaning  -- M, L, τ
+  addition : ℕ → List ℕ → List ℕ → Meaning  -- value, reference (20 bytes), path
+  searching : ℕ → ℕ → List ℕ → Meaning  -- low, high, pattern
+  misread : Meaning  -- number 12
+
+-- a field and what remains after its comma; without a comma there is no such field
+unfoldable pub withField : List ℕ → (List ℕ → List ℕ → Meaning) → Meaning
+withField s k = cond (ltb (width s) (length s)) (k (take (width s) s) (drop (width s + 1) s)) misread
+
+abbrev pub withNumber : Number → (ℕ → Meaning) → Meaning
+withNumber (Value n) k = k n
+withNumber Not k = misread
+
+-- `value,reference,path`
+abbrev pub additionOf : List ℕ → Meaning
+additionOf s =
+    withField s (λ v r. withNumber (numberOf v) (λ value.
+    withField r (λ h path. cond (isReference h) (addition value (unhex h) path) misread)))
+
+-- `low,high,pattern`
+abbrev pub searchOf : List ℕ → Meaning
+searchOf s =
+    withField s (λ a r. withNumber (numberOf a) (λ low.
+    withField r (λ b pattern. withNumber (numberOf b) (λ high. searching low high pattern))))
+
+-- M, and then `L,τ`: nothing follows the third number
+abbrev pub setupOf : List ℕ → List ℕ → Meaning
+setupOf a s =
+    withNumber (numberOf a) (λ m.
+    withField s (λ b t. withNumber (numberOf b) (λ l. withNumber (numberOf t) (λ tau. setup m l tau))))
+
+-- by its first field, `+`, `?` or M
+abbrev pub lineOf : List ℕ → Meaning
+lineOf s = withField s (λ f r. cond (only 43 f) (additionOf r) (cond (only 63 f) (searchOf r) (setupOf f r)))
+
+-- a line over 512 bytes is misread, whatever it holds
+abbrev pub meaning : List ℕ → Meaning
+meaning s = cond (ltb 512 (length s)) misread (lineOf s)
+
+-- ---- a command: the meaning with positions in the line for what it does not hold
+
+abbrev pub meant : List ℕ → Command → Meaning
+meant s (Setup m l tau) = setup m l tau
+meant s (Add value reference path) = addition value (unhex (region s reference 40)) (drop path s)
+meant s (Search low high pattern) = searching low high (drop pattern s)
+meant s Misread = misread
+
+-- its positions are in the line
+abbrev pub Inside : List ℕ → Command → Type 0
+Inside s (Setup m l tau) = Unit {0}
+Inside s (Add value reference path) = (reference + 40 ≤ length s) × (path ≤ length s)
+Inside s (Search low high pattern) = pattern ≤ length s
+Inside s Misread = Unit {0}
+
+-- the command r says m of the line s
+pub record Says (s : List ℕ) (m : Meaning) (r : Command) : Type 0 where
+  pub means : meant s r ≡ m
+  pub inside : Inside s r
