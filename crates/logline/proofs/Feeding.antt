@@ -8,9 +8,10 @@ use native.Mathlib.Numerals.{add-one}
 use lib.ListN.{length, take, set, length-append, length-set}
 use lib.Seq.{take-suc-set}
 use lib.Dec.{leb, eqb}
-use borrow.Author.Tests.{leb-true, leb-false, le-leb, lt-leb, eq-eqb, ne-eqb, lt-ltb}
+use borrow.Author.Tests.{leb-true, leb-false, le-leb, lt-leb, eq-eqb, ne-eqb, lt-ltb, le-ltb}
 use Rattle.buffer.specs.Lists.{none}
-use Rattle.logline.specs.Input.{linesFrom, linesOf, Given, given, begunAfter, onByte, onEnd, Holds, told, eventOf, Fed, Runs}
+use Rattle.buffer.proofs.Splice.{set-splice}
+use Rattle.logline.specs.Input.{linesFrom, linesOf, Given, given, begunAfter, onByte, onEnd, Holds, told, eventOf, Fed, Runs, pushedEvent, pushedLen, pushedBuffer, PushedAs, finishedEvent}
 use Rattle.logline.specs.Input.Runs.{finishes, pushes}
 use Rattle.logline.specs.Meaning.{Meaning, meaning}
 use Rattle.logline.specs.Meaning.Meaning.{misread}
@@ -132,3 +133,33 @@ saidBy tooLong = misread
 pub given-says : (l : List ℕ) → saidBy (given l) ≡ meaning l
 unfolding given
 given-says l = by-length (length l) (λ k. rw (le-leb (length l) 512 k)) (λ k. rw (lt-leb (length l) 512 k, lt-ltb 512 (length l) k))
+
+-- ---- what is answered for any state
+
+module _ (len b : ℕ) (buf : List ℕ) where
+  pub as-end : (event : Event) → event ≡ eventOf len → b ≡ 10 → PushedAs len buf b event 0 buf
+  unfolding pushedEvent pushedLen pushedBuffer
+  as-end event q e =
+      record { event-is = rw (eq-eqb b 10 e) q; next-is = rw (eq-eqb b 10 e); after-is = rw (eq-eqb b 10 e) }
+
+  pub as-more : (b ≡ 10 → ⊥) → len < 512 → length buf ≡ 512 → PushedAs len buf b Nothing (len + 1) (set buf len b)
+  unfolding pushedEvent pushedLen pushedBuffer
+  as-more n l r =
+      record {
+        event-is = rw (ne-eqb b 10 n);
+        next-is = rw (ne-eqb b 10 n, lt-ltb len 512 l);
+        after-is = rw (ne-eqb b 10 n, lt-ltb len 512 l) (set-splice buf len b (omega arith));
+      }
+
+  pub as-over : (b ≡ 10 → ⊥) → 512 ≤ len → PushedAs len buf b Nothing 513 buf
+  unfolding pushedEvent pushedLen pushedBuffer
+  as-over n l =
+      record { event-is = rw (ne-eqb b 10 n); next-is = rw (ne-eqb b 10 n, le-ltb len 512 l); after-is = rw (ne-eqb b 10 n, le-ltb len 512 l) }
+
+pub finished-none : (len : ℕ) → len ≡ 0 → Nothing ≡ finishedEvent len
+unfolding finishedEvent
+finished-none len e = rw (eq-eqb len 0 e)
+
+pub finished-line : (len : ℕ) → (len ≡ 0 → ⊥) → eventOf len ≡ finishedEvent len
+unfolding finishedEvent
+finished-line len n = rw (ne-eqb len 0 n)

@@ -1,12 +1,13 @@
 -- The lines of an input (document 01, `fieldlog`): each ends with byte 0A hex, the last one may lack it, and nothing after a final 0A is no
 -- line. A line over 512 bytes is handed over as too long, without its bytes. Assumes nothing: these are definitions.
-use Prim.Native.Nat.{ℕ, _≤_, _<_}
+use Prim.Native.Nat.{ℕ, _+_, _≤_, _<_}
 use mathlib.Core.Path.{_≡_}
 use mathlib.Core.List.{List, [], _∷_, _++_}
 use mathlib.Core.Bool.{cond}
 use lib.ListN.{length, take}
-use lib.Dec.{leb, eqb}
+use lib.Dec.{leb, ltb, eqb}
 use Rattle.buffer.specs.Lists.{none}
+use Rattle.buffer.specs.Splice.{splice}
 use Rattle.logline.specs.declared.lines.Event.{Event}
 use Rattle.logline.specs.declared.lines.Event.the-variants.{Nothing, Line, Long}
 
@@ -47,6 +48,24 @@ pub record Holds (len : ℕ) (buf begun : List ℕ) : Type 0 where
 -- the event of a line that ends with so many bytes counted
 unfoldable pub eventOf : ℕ → Event
 eventOf len = cond (leb len 512) (Line len) Long
+
+-- what `push` answers, counts then and leaves in the buffer, and what `finish` answers, for any state
+unfoldable pub pushedEvent : ℕ → ℕ → Event
+pushedEvent len b = cond (eqb b 10) (eventOf len) Nothing
+
+unfoldable pub pushedLen : ℕ → ℕ → ℕ
+pushedLen len b = cond (eqb b 10) 0 (cond (ltb len 512) (len + 1) 513)
+
+unfoldable pub pushedBuffer : ℕ → List ℕ → ℕ → List ℕ
+pushedBuffer len buf b = cond (eqb b 10) buf (cond (ltb len 512) (splice buf len (b ∷ [])) buf)
+
+unfoldable pub finishedEvent : ℕ → Event
+finishedEvent len = cond (eqb len 0) Nothing (eventOf len)
+
+pub record PushedAs (len : ℕ) (buf : List ℕ) (b : ℕ) (event : Event) (next : ℕ) (after : List ℕ) : Type 0 where
+  pub event-is : event ≡ pushedEvent len b
+  pub next-is : next ≡ pushedLen len b
+  pub after-is : after ≡ pushedBuffer len buf b
 
 -- what an event says of the buffer
 abbrev pub told : Event → List ℕ → List Given

@@ -4,7 +4,7 @@ ghost use mathlib.Core.Path.{_≡_};
 ghost use mathlib.Core.List.{List};
 ghost use Prim.Native.Nat.{ℕ, _≤_};
 ghost use lib.ListN.{length};
-ghost use Rattle.logline.specs.Input.{Holds, Fed, told, onEnd, eventOf};
+ghost use Rattle.logline.specs.Input.{Holds, Fed, told, onEnd, eventOf, PushedAs, finishedEvent};
 
 // How many bytes the open line has; 513 stands for any number above 512.
 pub struct Feed {
@@ -44,6 +44,7 @@ fn ended(len: usize) -> Event
 pub fn push(feed: Feed, buf: &mut [u8], byte: u8) -> Pushed
     requires { ⌜ length (now buf) ≡ 512 ⌝ }
     ensures { λ r. ⌜ ((begun : List ℕ) → Holds (feed .len) (now (buf .entry)) begun → Fed begun byte (r .event) (r .feed .len) (now (buf .exit))) ⌝ }
+    ensures { λ r. ⌜ PushedAs (feed .len) (now (buf .entry)) byte (r .event) (r .feed .len) (now (buf .exit)) ⌝ }
 {
     let len = feed.len;
     if byte == 10 {
@@ -68,6 +69,7 @@ pub fn push(feed: Feed, buf: &mut [u8], byte: u8) -> Pushed
 // The end of the input: the last line, where its 0A is missing.
 pub fn finish(feed: Feed) -> Event
     ensures { λ r. ⌜ ((buf begun : List ℕ) → Holds (feed .len) buf begun → told r buf ≡ onEnd begun) ⌝ }
+    ensures { λ r. ⌜ r ≡ finishedEvent (feed .len) ⌝ }
 {
     let len = feed.len;
     if len == 0 {

@@ -1,5 +1,5 @@
 -- The nodes from the root to the leaf of a key, as a level is read back: in a trie, and as the paper defines them from sets
--- of keys (Definition 7). In a level they are the same (proofs/Walk.antt).
+-- of keys (Definition 7). In a level they are the same (proofs/LevelWalk.antt).
 use Prim.Native.Nat.{ℕ, zero, suc}
 use mathlib.Core.Bool.{cond}
 use mathlib.Core.Option.{Option, some}

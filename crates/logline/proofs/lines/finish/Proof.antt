@@ -1,6 +1,7 @@
 -- By whether a byte is counted. Assumes nothing.
 use borrow.Author.Needs.{needs}
-use Rattle.logline.proofs.Feeding.{end-none, end-line}
+use mathlib.Core.Path.{_∙_}
+use Rattle.logline.proofs.Feeding.{end-none, end-line, finished-none, finished-line}
 use Rattle.logline.proofs.lines.finish.Statement.{statement}
 use Rattle.logline.proofs.lines.finish.Tie as tie
 
@@ -8,6 +9,9 @@ pub finish-spec : {M : Type 1} → statement M
 finish-spec =
     tie.close
     (tie.spec
-    (λ c buf begun h. end-none _ buf begun h (c .if1 .taken))
+    (λ c. (λ buf begun h. end-none _ buf begun h (c .if1 .taken), finished-none _ (c .if1 .taken)))
     (λ c κs. search needs)
-    (λ c buf begun h. rw (c .ended .ensures) (end-line _ buf begun h (c .before .if1 .left))))
+    (λ c. (
+      λ buf begun h. rw (c .ended .ensures) (end-line _ buf begun h (c .before .if1 .left)),
+      c .ended .ensures ∙ finished-line _ (c .before .if1 .left),
+    )))

@@ -1,6 +1,7 @@
 -- The three cases of a byte. Assumes nothing.
 use borrow.Author.Needs.{needs}
-use Rattle.logline.proofs.Feeding.{push-end, push-more, push-over}
+use native.Mathlib.Omega.{arith}
+use Rattle.logline.proofs.Feeding.{push-end, push-more, push-over, as-end, as-more, as-over}
 use Rattle.logline.proofs.lines.push.Statement.{statement}
 use Rattle.logline.proofs.lines.push.Tie as tie
 
@@ -9,9 +10,18 @@ push-spec =
     tie.close
     (tie.spec
     (λ c κs. search needs)
-    (λ c begun h. rw (c .ended .ensures) (push-end _ _ begun h _ (c .before .if1 .taken)))
+    (λ c. (
+      λ begun h. rw (c .ended .ensures) (push-end _ _ begun h _ (c .before .if1 .taken)),
+      as-end _ _ _ _ (c .ended .ensures) (c .before .if1 .taken),
+    ))
     (λ c. search needs)
     (λ c. search needs)
     (λ c. search needs)
-    (λ c begun h. push-more _ _ begun h _ (c .before .if1 .left) (c .if2 .taken))
-    (λ c begun h. push-over _ _ begun h _ (c .before .if1 .left) (c .if2 .left)))
+    (λ c. (
+      λ begun h. push-more _ _ begun h _ (c .before .if1 .left) (c .if2 .taken),
+      as-more _ _ _ (c .before .if1 .left) (c .if2 .taken) (omega arith),
+    ))
+    (λ c. (
+      λ begun h. push-over _ _ begun h _ (c .before .if1 .left) (c .if2 .left),
+      as-over _ _ _ (c .before .if1 .left) (c .if2 .left),
+    )))
