@@ -4,7 +4,7 @@ ghost use Prim.Native.Nat.{_+_, _≤_};
 ghost use lib.ListN.{length, replicate};
 ghost use Rattle.buffer.specs.Splice.{splice, region};
 
-// Bytes that a move towards the end takes in one step; a smaller block is slower, a larger one no faster.
+// Bytes that a move towards the end takes in one step, through an array on the stack. 32 and 128 measured slower, 2,048 somewhat faster.
 const BLOCK: usize = 512;
 
 // Lays `src` over `s` from `at` on.
