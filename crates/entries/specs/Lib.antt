@@ -1,2 +1,3 @@
 pub mod Keys
 pub mod Slots
+pub mod Query

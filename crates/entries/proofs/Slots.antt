@@ -16,8 +16,8 @@ use Rattle.rows.specs.Records.{records}
 use Rattle.rows.specs.Order.{entryOrder, recordOrder}
 use Rattle.rows.specs.Sorted.{sorted}
 use Rattle.rows.proofs.Rows.{fits, padded, from-path, value-region, reference-at, length-at, length-row, sort-records, length-side-by-side, records-side-by-side}
-use Rattle.keys.specs.Keys.{entryKey}
-use Rattle.keys.specs.Slots.{slotSize, slot, slotKey, shortPath}
+use Rattle.entries.specs.Keys.{entryKey}
+use Rattle.entries.specs.Slots.{slotSize, slot, slotKey, shortPath}
 
 -- what stands behind a row
 abbrev behind : List ℕ
