@@ -16,6 +16,7 @@ use Rattle.buffer.specs.Lists.{flat}
 use Rattle.trie_theory.specs.Dimensions.{Above, below, branching}
 use Rattle.trie_theory.specs.SmallTrie.{meets, ahead, alone, outcome, added}
 use Rattle.trie_theory.specs.Sound.{Ascending}
+use Rattle.trie_theory.specs.Size.{height}
 use Rattle.trie_theory.specs.Encode.{Regular, encode, nodeBytes, suffixBytes}
 use Rattle.trie_read.specs.Shape.{aboveOf, part}
 use Rattle.trie_read.specs.Heads.{headOf}
@@ -83,13 +84,14 @@ pub record Sibling (above : Above) (g : Forest) (u : List ℕ) (path start next 
   pub first : top g ≡ strings
   pub shaped : Regular 2 more
   pub ascends : Ascending above more
+  pub lower : height more ≤ height g
   pub later : (x : Key) → branching above strings < branching above (x .strings) → encode (added above g x) ≡ own ++ encode (added above more x)
   pub before : (x : Key) → branching above (x .strings) < branching above strings → added above g x ≡ alone x g
 
 sibling-leaf : (above : Above) (s : Strings) (ts : List Key) (more : Forest) (u : List ℕ) (path start next : ℕ)
     → Places u s (flat (map suffixBytes ts)) (encode more) path start next → length s ≡ 2 → Regular 2 more → Ascending above (leaf s ts more)
     → Sibling above (leaf s ts more) u path start next
-unfolding encode Ascending top
+unfolding encode Ascending top height
 sibling-leaf above s ts more u path start next pl w h a =
     record {
       strings = s;
@@ -102,6 +104,7 @@ sibling-leaf above s ts more u path start next pl w h a =
       first = refl;
       shaped = h;
       ascends = a .1;
+      lower = omega arith;
       later = λ x l. ap encode (leaf-later above s more x ts l);
       before = λ x l. leaf-before above s more x ts l (a .0);
     }
@@ -109,7 +112,7 @@ sibling-leaf above s ts more u path start next pl w h a =
 sibling-inner : (above : Above) (d : ℕ) (s : Strings) (kids more : Forest) (u : List ℕ) (path start next : ℕ)
     → Places u s (encode kids) (encode more) path start next → length s ≡ 2 → Regular 2 more → Ascending above (inner d s kids more)
     → Sibling above (inner d s kids more) u path start next
-unfolding encode Ascending top
+unfolding encode Ascending top height
 sibling-inner above d s kids more u path start next pl w h a =
     record {
       strings = s;
@@ -122,6 +125,7 @@ sibling-inner above d s kids more u path start next pl w h a =
       first = refl;
       shaped = h;
       ascends = a .2;
+      lower = omega arith;
       later = λ x l. ap encode (inner-later above s more x d kids l);
       before = λ x l. inner-before above s more x d kids l (a .0);
     }
@@ -149,7 +153,7 @@ pub record Seek (t : List ℕ) (above : ℕ) (k : Strings) (f : Forest) (at : �
 
 pub seek-start : (t : List ℕ) (above : ℕ) (k : Strings) (f : Forest) → Regular 2 f → Ascending (aboveOf above) f → t ≡ encode f → Seek t above k f 0 t
 seek-start t above k f h a e =
-    record { passed = record { front = []; over = f; bytes = e; here = refl; shaped = h; ascends = a; added = λ x q. refl }; left = e }
+    record { passed = record { front = []; over = f; bytes = e; here = refl; shaped = h; ascends = a; lower = omega arith; added = λ x q. refl }; left = e }
 
 module _ {t u : List ℕ} {above at : ℕ} {k : Strings} {f : Forest} {head : Head} (l : Seek t above k f at u)
     (is : (g : Forest) → Regular 2 g → u ≡ encode g → head ≡ headOf g) where
@@ -170,6 +174,7 @@ module _ {t u : List ℕ} {above at : ℕ} {k : Strings} {f : Forest} {head : He
         here = p .here;
         shaped = p .shaped;
         ascends = p .ascends;
+        lower = p .lower;
         added = λ x q. p .added x q ∙ ap (λ (g : Forest). p .front ++ encode g) (added-none (aboveOf above) (p .over) x z);
       }
 
@@ -209,6 +214,7 @@ module _ {t u : List ℕ} {above at : ℕ} {k : Strings} {f : Forest} {head : He
           here = p .here;
           shaped = p .shaped;
           ascends = p .ascends;
+          lower = p .lower;
           added = λ x q. p .added x q ∙ ap (λ (g : Forest). p .front ++ encode g) (here .before x (rw (q, ← here .known) b));
         }
 
@@ -223,6 +229,7 @@ module _ {t u : List ℕ} {above at : ℕ} {k : Strings} {f : Forest} {head : He
             here = omega (arith, p .here, here .long, length-append (p .front) (here .own));
             shaped = here .shaped;
             ascends = here .ascends;
+            lower = omega (arith, p .lower, here .lower);
             added = λ x q.
                 p .added x q
                 ∙ ap (λ (w : List ℕ). p .front ++ w) (here .later x (rw (q, ← here .known) b))

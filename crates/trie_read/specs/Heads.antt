@@ -32,8 +32,8 @@ headOf none = End
 headOf (leaf s ts more) = nodeHead 0 s (bodyOf (leaf s ts more))
 headOf (inner d s kids more) = nodeHead (suc d) s (bodyOf (inner d s kids more))
 
--- the places of a head lie in n bytes, in their sequence
+-- the places of a head lie in n bytes, in their sequence, and kind and lengths are bytes
 abbrev pub Inside : Head → ℕ → Type 0
 Inside End n = n ≡ 0
 Inside Bad n = Unit {0}
-Inside (Node kind path body next) n = (7 ≤ path) × (path ≤ body) × (body ≤ next) × (next ≤ n) × (kind < 256)
+Inside (Node kind path body next) n = (7 ≤ path) × (path ≤ body) × (body ≤ next) × (next ≤ n) × (kind < 256) × (path < 7 + 256) × (body < path + 256)

@@ -7,6 +7,7 @@ use lib.ListN.{length}
 use Rattle.trie_theory.specs.Forest.{Strings, Key, Forest, none, leaf, inner}
 use Rattle.trie_theory.specs.SmallTrie.{meets, alone, added}
 use Rattle.trie_theory.specs.Sound.{Ascending}
+use Rattle.trie_theory.specs.Size.{height}
 use Rattle.trie_theory.specs.Encode.{Regular, encode}
 use Rattle.trie_read.specs.Shape.{aboveOf}
 use Rattle.trie_read.specs.Heads.{headOf}
@@ -22,6 +23,7 @@ pub record Passed (t : List ℕ) (above : ℕ) (k : Strings) (f : Forest) (at : 
   pub here : at ≡ length front
   pub shaped : Regular 2 over
   pub ascends : Ascending (aboveOf above) over
+  pub lower : height over ≤ height f
   pub added : (x : Key) → x .strings ≡ k → encode (added (aboveOf above) f x) ≡ front ++ encode (changed over x)
 
 -- the strings of the first of tries
@@ -41,8 +43,8 @@ Found t above k f (Node at kind path body next) = Here t above k f at kind path 
 Found t above k f (Gap at) = Passed t above k f at (λ g x. alone x g)
 Found t above k f Bad = ⊥
 
--- the places lie in n bytes, in their sequence
+-- the places lie in n bytes, in their sequence, and kind and lengths are bytes
 abbrev pub Fits : Place → ℕ → Type 0
-Fits (Node at kind path body next) n = (at + 7 ≤ path) × (path ≤ body) × (body ≤ next) × (next ≤ n) × (kind < 256)
+Fits (Node at kind path body next) n = (at + 7 ≤ path) × (path ≤ body) × (body ≤ next) × (next ≤ n) × (kind < 256) × (path < at + 7 + 256) × (body < path + 256)
 Fits (Gap at) n = at ≤ n
 Fits Bad n = Unit {0}

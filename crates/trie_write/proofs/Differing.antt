@@ -7,7 +7,7 @@ use mathlib.Core.List.{List, [], _∷_}
 use native.Mathlib.Omega.{arith}
 use lib.ListN.{length}
 use lib.Dec.{ltb}
-use borrow.Author.Tests.{lt-ltb, le-ltb}
+use borrow.Author.Tests.{lt-ltb, le-ltb, ne-eqb}
 use Rattle.trie_theory.specs.Dimensions.{Above, root, below, turn, seek, wanted, next}
 use Rattle.trie_theory.specs.SmallTrie.{chosen, differing}
 use Rattle.trie_read.specs.Shape.{aboveOf}
@@ -29,6 +29,13 @@ module _ (v p : List ℕ) where
   elsewhere (suc zero) h n = absurd (n refl)
   elsewhere (suc (suc zero)) h n = refl
   elsewhere (suc (suc (suc d))) h n = absurd (omega arith)
+
+  beyond : (above : ℕ) → 2 < above → 1 ≡ suc (differing (aboveOf above) (v ∷ p ∷ []))
+  unfolding differing turn seek wanted next chosen
+  beyond zero h = absurd (omega arith)
+  beyond (suc zero) h = absurd (omega arith)
+  beyond (suc (suc zero)) h = absurd (omega arith)
+  beyond (suc (suc (suc d))) h = rw (ne-eqb (suc (suc (suc d))) 2 (λ e. omega arith), ne-eqb (suc (suc (suc (suc d)))) 2 (λ e. omega arith))
 
   module _ (above : ℕ) where
     pub path-wanted : above ≡ 1 → 0 < length p → 2 ≡ suc (differing (aboveOf above) (v ∷ p ∷ []))
@@ -54,3 +61,7 @@ module _ (v p : List ℕ) where
     pub none-left : above ≤ 2 → (above ≡ 1 → ⊥) → length v ≤ 0 → length p ≤ 0 → 1 ≡ suc (differing (aboveOf above) (v ∷ p ∷ []))
     unfolding chosen
     none-left l n h k = rw (elsewhere above l n, le-ltb 0 (length v) h, le-ltb 0 (length p) k)
+
+    -- no node has such a kind
+    pub no-dimension : 2 < above → 1 ≡ suc (differing (aboveOf above) (v ∷ p ∷ []))
+    no-dimension h = beyond above h
