@@ -7,7 +7,7 @@ use native.Mathlib.Omega.{arith}
 use native.Mathlib.Nat.{add-assoc, add-zero}
 use native.Mathlib.Numerals.{add-one}
 use lib.ListN.{length, getD, take, drop, set, length-append, length-take, length-drop, take-append-drop, drop-of-length-le, List·getD-append}
-use lib.Seq.{drop-at, take-at, take-append-le, drop-append-le, take-take, drop-drop, take-add, set-split, getD-drop, getD-take, take-suc, drop-cons, length-take-le}
+use lib.Seq.{drop-at, take-at, take-append-le, drop-append-le, take-take, drop-drop, take-add, set-split, getD-drop, getD-take, take-suc, take-all, drop-cons, length-take-le}
 use borrow.Rule.Slice.PartMut.{putMid}
 use Rattle.buffer.specs.Splice.{splice, region}
 
@@ -107,12 +107,16 @@ module _ (s : List ℕ) (o : ℕ) (b : List ℕ) (fit : o + length b ≤ length 
       let n : o + length (b ++ a) ≡ o + length b + length a = omega (arith, length-append b a) in
       rw (splice-is (splice s o b), splice-is s o (b ++ a), n, take-splice s o b fit, drop-after s o b fit _ k) (simp append-assoc)
 
-  -- the second in the place of the first
-  pub splice-over : (a : List ℕ) → length a ≡ length b → splice (splice s o b) o a ≡ splice s o a
-  splice-over a h =
+  -- the second over the first, and perhaps more
+  pub splice-cover : (a : List ℕ) → length b ≤ length a → splice (splice s o b) o a ≡ splice s o a
+  splice-cover a h =
       let k : o + length b ≤ o + length a = omega arith in
       let z : o ≤ o = omega arith in
       rw (splice-is (splice s o b), splice-is s o a, take-before s o b fit o z, drop-after s o b fit _ k)
+
+  -- .. in its place
+  pub splice-over : (a : List ℕ) → length a ≡ length b → splice (splice s o b) o a ≡ splice s o a
+  splice-over a h = splice-cover a (omega arith)
 
   -- the second k elements behind the first
   splice-swap : (k : ℕ) (a : List ℕ) → o + length b + k + length a ≤ length s
@@ -237,3 +241,19 @@ splice-then s s₀ o b p a e q h = rw (e, q) (splice-next s₀ o b h a)
 -- the new goes in front of what has moved on
 pub splice-front : (s s₁ : List ℕ) (o p : ℕ) (b t : List ℕ) → s₁ ≡ splice s p t → p ≡ o + length b → p + length t ≤ length s → splice s₁ o b ≡ splice s o (b ++ t)
 splice-front s s₁ o p b t e q h = rw (e, q) (splice-prev s o b t (omega arith))
+
+-- an insertion into what is spliced: what stood behind its place is written again behind it
+pub splice-insert : (s s₁ : List ℕ) (o p n : ℕ) (x l y : List ℕ) → s₁ ≡ splice s o (x ++ y) → p ≡ o + length x → n ≡ length y
+    → o + length x + length l + length y ≤ length s → splice s₁ p (l ++ region s₁ p n) ≡ splice s o (x ++ (l ++ y))
+splice-insert s s₁ o p n x l y e q m h =
+    let f : o + length (x ++ y) ≤ length s = omega (arith, length-append x y) in
+    let i : length x + length y ≤ length (x ++ y) = omega (arith, length-append x y) in
+    let k : length (splice s o (x ++ y)) ≡ length s = length-splice s o (x ++ y) f in
+    let behind : region (splice s o (x ++ y)) (o + length x) (length y) ≡ y =
+    region-inside s o (x ++ y) f (length x) (length y) i ∙ rw (drop-at x y (length x) refl) (take-all (length y) y (omega arith)) in
+    let z : 0 + length x ≤ length (x ++ y) = omega (arith, length-append x y) in
+    let d : o + length x - o ≡ length x = omega arith in
+    let before : region (splice s o (x ++ y)) o (length x) ≡ x = rw add-zero at (region-inside s o (x ++ y) f 0 (length x) z) ∙ take-at x y (length x) refl in
+    let from : splice (splice s o (x ++ y)) (o + length x) (l ++ y) ≡ splice (splice s o (x ++ y)) o (region (splice s o (x ++ y)) o (o + length x - o) ++ (l ++ y)) =
+    splice-from (splice s o (x ++ y)) o (o + length x) (l ++ y) (omega arith) (omega (arith, length-append l y)) in
+    rw (e, q, m, behind, from, d, before) (splice-cover s o (x ++ y) f (x ++ (l ++ y)) (omega (arith, length-append x y, length-append x (l ++ y), length-append l y)))

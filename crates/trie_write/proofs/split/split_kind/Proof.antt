@@ -8,9 +8,9 @@ pub split-kind-spec : {M : Type 1} → statement M
 split-kind-spec =
     tie.close
     (tie.spec
-    (λ c. path-wanted _ _ _ (c .before .if1 .taken) (c .if2 .taken))
-    (λ c. value-left _ _ _ (c .before .if1 .taken) (c .if2 .left))
-    (λ c. no-dimension _ _ _ (c .if3 .taken))
-    (λ c. value-wanted _ _ _ (c .before .if3 .left) (c .before .before .if1 .left) (c .if4 .taken))
-    (λ c. path-left _ _ _ (c .before .before .if3 .left) (c .before .before .before .if1 .left) (c .before .if4 .left) (c .if5 .taken))
-    (λ c. none-left _ _ _ (c .before .before .if3 .left) (c .before .before .before .if1 .left) (c .before .if4 .left) (c .if5 .left)))
+    (λ c. (omega arith, path-wanted _ _ _ (c .before .if1 .taken) (c .if2 .taken)))
+    (λ c. (omega arith, value-left _ _ _ (c .before .if1 .taken) (c .if2 .left)))
+    (λ c. (omega arith, no-dimension _ _ _ (c .if3 .taken)))
+    (λ c. (omega arith, value-wanted _ _ _ (c .before .if3 .left) (c .before .before .if1 .left) (c .if4 .taken)))
+    (λ c. (omega arith, path-left _ _ _ (c .before .before .if3 .left) (c .before .before .before .if1 .left) (c .before .if4 .left) (c .if5 .taken)))
+    (λ c. (omega arith, none-left _ _ _ (c .before .before .if3 .left) (c .before .before .before .if1 .left) (c .before .if4 .left) (c .if5 .left))))

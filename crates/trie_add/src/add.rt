@@ -1,0 +1,1 @@
+// The addition: down while strings agree.
