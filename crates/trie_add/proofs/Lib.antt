@@ -1,2 +1,5 @@
 pub mod Fronts
 pub mod Splitting
+pub mod Adding
+pub mod First
+pub mod Addition
