@@ -1,9 +1,12 @@
--- Laws of small words about lists: what holds of every element, what some element passes, what is picked, equal lists.
-use Prim.Native.Nat.{ℕ}
-use Rattle.buffer.proofs.Tests.{and-left, and-right, and-both, bool-ext, not-true}
+-- Laws of small words about lists: what holds of every element, what some element passes, what is picked, equal lists, parts.
+use Prim.Native.Nat.{ℕ, _-_}
+use Rattle.buffer.proofs.Tests.{and-left, and-right, and-both, or-right}
 use mathlib.Core.Path.{_≡_, refl, sym, ap, ap₂, _∙_}
 use mathlib.Core.Bool.{Bool, true, false, cond, _&&_, _||_, false≢true}
 use mathlib.Core.List.{List, [], _∷_, _++_, map}
+use native.Mathlib.Omega.{arith}
+use lib.ListN.{length, take, drop, length-drop}
+use lib.Seq.{take-all, take-at, drop-at}
 use lib.Dec.{eqb}
 use borrow.Author.Tests.{eqb-true, eq-eqb}
 use Rattle.buffer.specs.Lists.{all, All, nil, cons, any, pick, same}
@@ -124,11 +127,7 @@ any-in t (x ∷ xs) e = go (t x) refl e (any-in t xs)
 pub in-any : {A : Type 0} (t : A → Bool) {x : A} {xs : List A} → In x xs → t x ≡ true → any t xs ≡ true
 unfolding any
 in-any t (at-head) e = rw e
-in-any t (later {y = y} {xs = xs} i) e = or-true (t y) (any t xs) (in-any t i e)
-  where
-    or-true : (a b : Bool) → b ≡ true → a || b ≡ true
-    or-true true b e = refl
-    or-true false b e = e
+in-any t (later {y = y} {xs = xs} i) e = or-right (t y) (any t xs) (in-any t i e)
 
 -- the test of equal lists is right, both ways
 pub same-true : {A : Type 0} (t : A → A → Bool) → ((x y : A) → t x y ≡ true → x ≡ y) → (xs ys : List A) → same t xs ys ≡ true
@@ -156,3 +155,14 @@ strings-true a b = same-true (same eqb) bytes-true a b
 
 pub strings-refl : (a : List (List ℕ)) → same (same eqb) a a ≡ true
 strings-refl a = same-refl (same eqb) bytes-refl a
+
+-- the two halves of equal lists, the first ones equally long
+pub halves : (a c b d : List ℕ) → length a ≡ length c → a ++ b ≡ c ++ d → (a ≡ c) × (b ≡ d)
+halves a c b d l e = (
+  sym (take-at a b (length a) refl) ∙ ap (take (length a)) e ∙ take-at c d (length a) (sym l),
+  sym (drop-at a b (length a) refl) ∙ ap (drop (length a)) e ∙ drop-at c d (length a) (sym l),
+)
+
+-- a part that runs to the end
+pub tail-part : {A : Type 0} (n : ℕ) (l : List A) → take (length l - n) (drop n l) ≡ drop n l
+tail-part n l = take-all (length l - n) (drop n l) (simp length-drop (omega arith))

@@ -1,8 +1,10 @@
--- Bool tests taken apart and put together. Assumes nothing.
+-- Bool tests taken apart and put together, and numbers that are equal or not. Assumes nothing.
 use mathlib.Core.Path.{_≡_, refl, sym}
 use mathlib.Core.Bool.{Bool, true, false, _&&_, _||_, false≢true}
 use Prim.Native.Nat.{ℕ}
+use mathlib.Core.Logic.{_⊎_, inl, inr}
 use native.Mathlib.Omega.{arith}
+use native.Mathlib.Decide.{ℕ-discrete}
 
 pub and-left : (a b : Bool) → a && b ≡ true → a ≡ true
 and-left true b e = refl
@@ -59,3 +61,6 @@ or-first false b f h = not-both h f
 pub or-second : (a b : Bool) → a ≡ false → a || b ≡ true → b ≡ true
 or-second true b f h = not-both refl f
 or-second false b f h = h
+
+pub same? : (a b : ℕ) → (a ≡ b) ⊎ (a ≡ b → ⊥)
+same? a b = elim (ℕ-discrete a b) [ yes e ↦ inl e | no h ↦ inr h ]

@@ -1,3 +1,4 @@
+pub mod Sizes
 pub mod Lists
 pub mod Splice
 pub mod Numbers

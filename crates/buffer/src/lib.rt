@@ -2,3 +2,4 @@
 // Each writer leaves a splice of what was there (specs/Splice.antt), so a caller's proof chains equalities on the whole slice.
 pub mod moves;
 pub mod numbers;
+pub mod sizes;

@@ -2,10 +2,9 @@
 ghost use mathlib.Core.Path.{_≡_};
 ghost use Prim.Native.Nat.{_+_, _≤_};
 ghost use lib.ListN.{length, replicate};
+ghost use Rattle.buffer.specs.Sizes.{moveBlock};
 ghost use Rattle.buffer.specs.Splice.{splice, region};
-
-// Bytes that a move towards the end takes in one step, through an array on the stack. 32 and 128 measured slower, 2,048 somewhat faster.
-const BLOCK: usize = 512;
+use crate::sizes::MOVE_BLOCK;
 
 // Lays `src` over `s` from `at` on.
 pub fn copy_from(s: &mut [u8], at: usize, src: &[u8])
@@ -33,11 +32,11 @@ fn move_down(s: &mut [u8], from: usize, to: usize, n: usize)
 
 // Moves one block: it is read whole before it is written, so the two places may overlap either way.
 fn move_block(s: &mut [u8], from: usize, to: usize)
-    requires { ⌜ (from + 512 ≤ length (now s)) × (to + 512 ≤ length (now s)) ⌝ }
-    ensures { λ _. ⌜ now (s .exit) ≡ splice (now (s .entry)) to (region (now (s .entry)) from 512) ⌝ }
+    requires { ⌜ (from + moveBlock ≤ length (now s)) × (to + moveBlock ≤ length (now s)) ⌝ }
+    ensures { λ _. ⌜ now (s .exit) ≡ splice (now (s .entry)) to (region (now (s .entry)) from moveBlock) ⌝ }
 {
-    let mut block = [0u8; BLOCK];
-    let end = from + BLOCK;
+    let mut block = [0u8; MOVE_BLOCK];
+    let end = from + MOVE_BLOCK;
     copy_from(&mut block, 0, &s[from..end]);
     copy_from(s, to, &block);
 }
@@ -60,8 +59,8 @@ fn move_up(s: &mut [u8], from: usize, to: usize, n: usize)
     ensures { λ _. ⌜ now (s .exit) ≡ splice (now (s .entry)) to (region (now (s .entry)) from n) ⌝ }
 {
     let mut i: usize = n;
-    while i >= BLOCK {
-        i -= BLOCK;
+    while i >= MOVE_BLOCK {
+        i -= MOVE_BLOCK;
         move_block(s, from + i, to + i);
     }
     move_up_bytes(s, from, to, i);

@@ -37,10 +37,6 @@ module _ (s : List ℕ) (at e : ℕ) (ends : Ends s at e) where
   pub reference-field : at ≤ e → isReference (take (e - at) (drop at s)) ≡ true → e ≡ at + 40
   reference-field h r = omega (arith, length-region s at (e - at) (omega arith), reference-length _ r)
 
--- all that remains, as the code lends it
-pub remains : (s : List ℕ) (o : ℕ) → take (length s - o) (drop o s) ≡ drop o s
-remains s o = take-all (length s - o) (drop o s) (rw length-drop (omega arith))
-
 -- the test on a line's length
 module _ (s : List ℕ) (at : ℕ) where
   pub longer : 512 < length s - at → ltb 512 (length (drop at s)) ≡ true

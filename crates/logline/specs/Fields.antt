@@ -6,6 +6,7 @@ use mathlib.Core.List.{List, [], _∷_}
 use mathlib.Core.Bool.{Bool, true, false, cond, not, _&&_, _||_}
 use lib.ListN.{length, drop}
 use lib.Dec.{ltb, leb, eqb}
+use Rattle.logline.specs.Sizes.{referenceDigits}
 use Rattle.buffer.specs.Lists.{all}
 use Rattle.logline.specs.declared.fields.Number.{Number}
 use Rattle.logline.specs.declared.fields.Number.the-variants.{Value, Not}
@@ -57,7 +58,7 @@ unfoldable pub hexValue : ℕ → ℕ
 hexValue b = cond (digit b) (b - 48) (cond (leb 97 b && leb b 102) (b - 87) 0)
 
 unfoldable pub isReference : List ℕ → Bool
-isReference s = eqb (length s) 40 && all hexDigit s
+isReference s = eqb (length s) referenceDigits && all hexDigit s
 
 unfoldable pub unhex : List ℕ → List ℕ
 unhex [] = []

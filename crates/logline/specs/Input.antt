@@ -6,6 +6,7 @@ use mathlib.Core.List.{List, [], _∷_, _++_}
 use mathlib.Core.Bool.{cond}
 use lib.ListN.{length, take}
 use lib.Dec.{leb, ltb, eqb}
+use Rattle.logline.specs.Sizes.{lineLimit}
 use Rattle.buffer.specs.Lists.{none}
 use Rattle.buffer.specs.Splice.{splice}
 use Rattle.logline.specs.declared.lines.Event.{Event}
@@ -25,7 +26,7 @@ pub data Given : Type 0 where
   tooLong : Given
 
 unfoldable pub given : List ℕ → Given
-given l = cond (leb (length l) 512) (whole l) tooLong
+given l = cond (leb (length l) lineLimit) (whole l) tooLong
 
 -- ---- byte by byte: the line that is begun, and what one byte or the end of the input hands over
 
@@ -41,23 +42,23 @@ onEnd begun = cond (none begun) [] (given begun ∷ [])
 -- ---- the state: how many bytes the line has that is begun, with 513 for any number above 512; a buffer that begins with them
 
 pub record Holds (len : ℕ) (buf begun : List ℕ) : Type 0 where
-  pub room : length buf ≡ 512
-  pub fits : length begun ≤ 512 → (len ≡ length begun) × (take len buf ≡ begun)
-  pub over : 512 < length begun → len ≡ 513
+  pub room : length buf ≡ lineLimit
+  pub fits : length begun ≤ lineLimit → (len ≡ length begun) × (take len buf ≡ begun)
+  pub over : lineLimit < length begun → len ≡ lineLimit + 1
 
 -- the event of a line that ends with so many bytes counted
 unfoldable pub eventOf : ℕ → Event
-eventOf len = cond (leb len 512) (Line len) Long
+eventOf len = cond (leb len lineLimit) (Line len) Long
 
 -- what `push` answers, counts then and leaves in the buffer, and what `finish` answers, for any state
 unfoldable pub pushedEvent : ℕ → ℕ → Event
 pushedEvent len b = cond (eqb b 10) (eventOf len) Nothing
 
 unfoldable pub pushedLen : ℕ → ℕ → ℕ
-pushedLen len b = cond (eqb b 10) 0 (cond (ltb len 512) (len + 1) 513)
+pushedLen len b = cond (eqb b 10) 0 (cond (ltb len lineLimit) (len + 1) (lineLimit + 1))
 
 unfoldable pub pushedBuffer : ℕ → List ℕ → ℕ → List ℕ
-pushedBuffer len buf b = cond (eqb b 10) buf (cond (ltb len 512) (splice buf len (b ∷ [])) buf)
+pushedBuffer len buf b = cond (eqb b 10) buf (cond (ltb len lineLimit) (splice buf len (b ∷ [])) buf)
 
 unfoldable pub finishedEvent : ℕ → Event
 finishedEvent len = cond (eqb len 0) Nothing (eventOf len)

@@ -1,3 +1,4 @@
+pub mod Sizes
 pub mod Fields
 pub mod Meaning
 pub mod Spelling

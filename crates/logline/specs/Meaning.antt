@@ -6,6 +6,7 @@ use mathlib.Core.List.{List}
 use mathlib.Core.Bool.{Bool, true, false, cond}
 use lib.ListN.{length, take, drop}
 use lib.Dec.{ltb}
+use Rattle.logline.specs.Sizes.{lineLimit, referenceDigits}
 use Rattle.buffer.specs.Splice.{region}
 use Rattle.logline.specs.Fields.{width, only, numberOf, isReference, unhex}
 use Rattle.logline.specs.declared.fields.Number.{Number}
@@ -51,20 +52,20 @@ lineOf s = withField s (λ f r. cond (only 43 f) (additionOf r) (cond (only 63 f
 
 -- a line over 512 bytes is misread, whatever it holds
 abbrev pub meaning : List ℕ → Meaning
-meaning s = cond (ltb 512 (length s)) misread (lineOf s)
+meaning s = cond (ltb lineLimit (length s)) misread (lineOf s)
 
 -- ---- a command: the meaning with positions in the line for what it does not hold
 
 abbrev pub meant : List ℕ → Command → Meaning
 meant s (Setup m l tau) = setup m l tau
-meant s (Add value reference path) = addition value (unhex (region s reference 40)) (drop path s)
+meant s (Add value reference path) = addition value (unhex (region s reference referenceDigits)) (drop path s)
 meant s (Search low high pattern) = searching low high (drop pattern s)
 meant s Misread = misread
 
 -- its positions are in the line
 abbrev pub Inside : List ℕ → Command → Type 0
 Inside s (Setup m l tau) = Unit {0}
-Inside s (Add value reference path) = (reference + 40 ≤ length s) × (path ≤ length s)
+Inside s (Add value reference path) = (reference + referenceDigits ≤ length s) × (path ≤ length s)
 Inside s (Search low high pattern) = pattern ≤ length s
 Inside s Misread = Unit {0}
 

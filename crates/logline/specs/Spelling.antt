@@ -1,11 +1,12 @@
 -- How replies and rows are spelled (document 01, `fieldlog`): `=,number,first,second` and `-,value,reference,path`, each ended by 0A hex.
 -- Assumes nothing: these are definitions.
-use Prim.Native.Nat.{ℕ, zero, suc, _+_, _/_, _%_, _≤_}
+use Prim.Native.Nat.{ℕ, zero, suc, _+_, _-_, _/_, _%_, _≤_}
 use mathlib.Core.Path.{_≡_}
 use mathlib.Core.List.{List, [], _∷_, _++_}
 use mathlib.Core.Bool.{cond}
 use lib.ListN.{length, getD}
 use lib.Dec.{ltb}
+use Rattle.logline.specs.Sizes.{valueSize, referenceSize, referenceAt, lengthAt, pathAt, decimalDigits}
 use Rattle.buffer.specs.Splice.{splice, region}
 use Rattle.buffer.specs.Numbers.{number}
 
@@ -16,7 +17,7 @@ decimalIn (suc k) n = cond (ltb n 10) ((48 + n) ∷ []) (decimalIn k (n / 10) ++
 
 -- a number below 2^64 has at most 20 digits
 unfoldable pub decimal : ℕ → List ℕ
-decimal n = decimalIn 19 n
+decimal n = decimalIn (decimalDigits - 1) n
 
 -- the hex digit worth d, in lower case
 unfoldable pub glyph : ℕ → ℕ
@@ -34,7 +35,7 @@ reply n first second = (61 ∷ 44 ∷ []) ++ (decimal n ++ ((44 ∷ []) ++ (deci
 -- `-,value,reference,path` of a row of 229 bytes: value 8, reference 20, path length 1, path with zeros to 200
 unfoldable pub rowLine : List ℕ → List ℕ
 rowLine row =
-    (45 ∷ 44 ∷ []) ++ (decimal (number (region row 0 8)) ++ ((44 ∷ []) ++ (hex (region row 8 20) ++ ((44 ∷ []) ++ (region row 29 (getD row 28 0) ++ (10 ∷ []))))))
+    (45 ∷ 44 ∷ []) ++ (decimal (number (region row 0 valueSize)) ++ ((44 ∷ []) ++ (hex (region row referenceAt referenceSize) ++ ((44 ∷ []) ++ (region row pathAt (getD row lengthAt 0) ++ (10 ∷ []))))))
 
 -- b was written into s from `at` on and fits there; what was written ends before `next`
 pub record Wrote (s : List ℕ) (at : ℕ) (b after : List ℕ) (next : ℕ) : Type 0 where

@@ -1,5 +1,6 @@
 // A line read as a command: numbers, and positions in the line for what is text.
 use crate::fields::Number;
+use crate::sizes::LINE_LIMIT;
 ghost use mathlib.Core.Path.{_≡_};
 ghost use Prim.Native.Nat.{_+_, _-_, _≤_, _<_};
 ghost use mathlib.Core.List.{List};
@@ -110,7 +111,7 @@ pub fn command_at(s: &[u8], at: usize) -> Command
     if s.len() < at {
         return Command::Misread;
     }
-    if 512 < s.len() - at {
+    if LINE_LIMIT < s.len() - at {
         return Command::Misread;
     }
     let a = crate::fields::field_end(s, at);

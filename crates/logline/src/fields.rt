@@ -4,7 +4,10 @@ ghost use Prim.Native.Nat.{_+_, _≤_, _<_};
 ghost use lib.ListN.{length};
 ghost use Rattle.buffer.specs.Splice.{region};
 ghost use Rattle.buffer.specs.Lists.{all};
+ghost use Rattle.logline.specs.Sizes.{referenceSize, referenceDigits};
 ghost use Rattle.logline.specs.Fields.{Ends, only, digit, numberFrom, numberOf, hexDigit, hexValue, isReference, unhex};
+use crate::sizes::REFERENCE_DIGITS;
+use rows::sizes::REFERENCE_SIZE;
 
 pub enum Number {
     Value(u64),
@@ -109,7 +112,7 @@ fn is_hex_digit(b: u8) -> bool
 pub fn is_reference(s: &[u8]) -> bool
     ensures { λ r. ⌜ r ≡ isReference (now (s .entry)) ⌝ }
 {
-    if s.len() != 40 {
+    if s.len() != REFERENCE_DIGITS {
         return false;
     }
     let mut i: usize = 0;
@@ -142,11 +145,11 @@ fn hex_value(b: u8) -> u8
 
 // The 20 bytes of the reference whose 40 digits begin at `at`.
 pub fn reference(s: &[u8], at: usize, out: &mut [u8])
-    requires { ⌜ (at + 40 ≤ length (now s)) × (length (now out) ≡ 20) ⌝ }
-    ensures { λ _. ⌜ now (out .exit) ≡ unhex (region (now (s .entry)) at 40) ⌝ }
+    requires { ⌜ (at + referenceDigits ≤ length (now s)) × (length (now out) ≡ referenceSize) ⌝ }
+    ensures { λ _. ⌜ now (out .exit) ≡ unhex (region (now (s .entry)) at referenceDigits) ⌝ }
 {
     let mut i: usize = 0;
-    while i < 20 {
+    while i < REFERENCE_SIZE {
         let from = at + 2 * i;
         out[i] = hex_value(s[from]) * 16 + hex_value(s[from + 1]);
         i += 1;

@@ -3,4 +3,5 @@ pub mod command;
 pub mod fields;
 pub mod lines;
 pub mod reader;
+pub mod sizes;
 pub mod spell;

@@ -4,9 +4,14 @@ ghost use mathlib.Core.Path.{_≡_};
 ghost use mathlib.Core.List.{List};
 ghost use Prim.Native.Nat.{ℕ, _≤_};
 ghost use lib.ListN.{length};
+ghost use Rattle.logline.specs.Sizes.{lineLimit};
 ghost use Rattle.logline.specs.Input.{Holds, Fed, told, onEnd, eventOf, PushedAs, finishedEvent};
+use crate::sizes::LINE_LIMIT;
 
-// How many bytes the open line has; 513 stands for any number above 512.
+// Stands for any number of bytes above the limit.
+const OVER: usize = LINE_LIMIT + 1;
+
+// How many bytes the open line has, or OVER.
 pub struct Feed {
     pub len: usize,
 }
@@ -34,7 +39,7 @@ pub fn start() -> Feed
 fn ended(len: usize) -> Event
     ensures { λ r. ⌜ r ≡ eventOf len ⌝ }
 {
-    if len <= 512 {
+    if len <= LINE_LIMIT {
         return Event::Line(len);
     }
     Event::Long
@@ -42,7 +47,7 @@ fn ended(len: usize) -> Event
 
 // Feeds one byte. After a line the state is as at the start, and the buffer still holds the line until the next byte is fed.
 pub fn push(feed: Feed, buf: &mut [u8], byte: u8) -> Pushed
-    requires { ⌜ length (now buf) ≡ 512 ⌝ }
+    requires { ⌜ length (now buf) ≡ lineLimit ⌝ }
     ensures { λ r. ⌜ ((begun : List ℕ) → Holds (feed .len) (now (buf .entry)) begun → Fed begun byte (r .event) (r .feed .len) (now (buf .exit))) ⌝ }
     ensures { λ r. ⌜ PushedAs (feed .len) (now (buf .entry)) byte (r .event) (r .feed .len) (now (buf .exit)) ⌝ }
 {
@@ -53,7 +58,7 @@ pub fn push(feed: Feed, buf: &mut [u8], byte: u8) -> Pushed
             event: ended(len),
         };
     }
-    if len < 512 {
+    if len < LINE_LIMIT {
         buf[len] = byte;
         return Pushed {
             feed: Feed { len: len + 1 },
@@ -61,7 +66,7 @@ pub fn push(feed: Feed, buf: &mut [u8], byte: u8) -> Pushed
         };
     }
     Pushed {
-        feed: Feed { len: 513 },
+        feed: Feed { len: OVER },
         event: Event::Nothing,
     }
 }

@@ -4,7 +4,15 @@ ghost use mathlib.Core.List.{[], _∷_};
 ghost use Prim.Native.Nat.{_+_, _*_, _≤_, _<_};
 ghost use lib.ListN.{length, getD};
 ghost use Rattle.buffer.specs.Splice.{splice, region};
+ghost use Rattle.logline.specs.Sizes.{pathLimit, lengthAt, pathAt, rowSize, replyLimit, rowLineLimit};
 ghost use Rattle.logline.specs.Spelling.{decimal, glyph, hex, reply, rowLine, Wrote};
+use rows::sizes::LENGTH_AT;
+use rows::sizes::PATH_AT;
+use rows::sizes::PATH_LIMIT;
+use rows::sizes::REFERENCE_AT;
+
+// The limit of a path as a path length.
+const LONGEST: u8 = PATH_LIMIT as u8;
 
 fn put_byte(out: &mut [u8], at: usize, b: u8) -> usize
     requires { ⌜ at < length (now out) ⌝ }
@@ -68,9 +76,9 @@ fn put_mark(out: &mut [u8], at: usize, mark: u8) -> usize
     put_byte(out, a, 44)
 }
 
-// Writes the reply to a line. 65 bytes are enough for any three numbers.
+// Writes the reply to a line; `replyLimit` bytes are enough for any three numbers.
 pub fn spell_reply(out: &mut [u8], at: usize, number: u64, first: u64, second: u64) -> usize
-    requires { ⌜ at + 65 ≤ length (now out) ⌝ }
+    requires { ⌜ at + replyLimit ≤ length (now out) ⌝ }
     ensures { λ r. ⌜ Wrote (now (out .entry)) at (reply number first second) (now (out .exit)) r ⌝ }
 {
     let a = put_mark(out, at, 61);
@@ -84,28 +92,28 @@ pub fn spell_reply(out: &mut [u8], at: usize, number: u64, first: u64, second: u
 
 // The length of a row's path; a row that no search wrote may say more than the 200 bytes there are.
 fn path_length(row: &[u8]) -> usize
-    requires { ⌜ length (now row) ≡ 229 ⌝ }
-    ensures { λ r. ⌜ (r ≤ 200) × (region (now (row .entry)) 29 r ≡ region (now (row .entry)) 29 (getD (now (row .entry)) 28 0)) ⌝ }
+    requires { ⌜ length (now row) ≡ rowSize ⌝ }
+    ensures { λ r. ⌜ (r ≤ pathLimit) × (region (now (row .entry)) pathAt r ≡ region (now (row .entry)) pathAt (getD (now (row .entry)) lengthAt 0)) ⌝ }
 {
-    let n = row[28];
-    if 200 < n {
-        return 200;
+    let n = row[LENGTH_AT];
+    if LONGEST < n {
+        return PATH_LIMIT;
     }
     n as usize
 }
 
-// Writes a row. 265 bytes are enough for any row.
+// Writes a row; `rowLineLimit` bytes are enough for any.
 pub fn spell_row(out: &mut [u8], at: usize, row: &[u8]) -> usize
-    requires { ⌜ (at + 265 ≤ length (now out)) × (length (now row) ≡ 229) ⌝ }
+    requires { ⌜ (at + rowLineLimit ≤ length (now out)) × (length (now row) ≡ rowSize) ⌝ }
     ensures { λ r. ⌜ Wrote (now (out .entry)) at (rowLine (now (row .entry))) (now (out .exit)) r ⌝ }
 {
     let value = buffer::numbers::get64(row, 0);
-    let end = 29 + path_length(row);
+    let end = PATH_AT + path_length(row);
     let a = put_mark(out, at, 45);
     let b = put_decimal(out, a, value);
     let c = put_byte(out, b, 44);
-    let d = put_hex(out, c, &row[8..28]);
+    let d = put_hex(out, c, &row[REFERENCE_AT..LENGTH_AT]);
     let e = put_byte(out, d, 44);
-    let f = put_bytes(out, e, &row[29..end]);
+    let f = put_bytes(out, e, &row[PATH_AT..end]);
     put_byte(out, f, 10)
 }

@@ -3,9 +3,19 @@
 use logline::command::Command;
 use logline::lines::Event;
 use logline::lines::Feed;
+use logline::sizes::LINE_LIMIT;
+use logline::sizes::REPLY_LIMIT;
+use logline::sizes::ROW_LINE_LIMIT;
+use rows::sizes::LENGTH_AT;
+use rows::sizes::PATH_AT;
+use rows::sizes::PATH_LIMIT;
+use rows::sizes::REFERENCE_AT;
+use rows::sizes::REFERENCE_SIZE;
+use rows::sizes::ROW_SIZE;
 ghost use mathlib.Core.Path.{_≡_};
 ghost use Prim.Native.Nat.{_+_, _≤_};
 ghost use lib.ListN.{length};
+ghost use Rattle.logline.specs.Sizes.{lineLimit, referenceSize, referenceDigits};
 
 const NEWLINE: [u8; 1] = [10];
 
@@ -19,33 +29,33 @@ fn print_front(s: &[u8], n: usize) {
 
 // `=,a,b,c`
 fn print_reply(a: u64, b: u64, c: u64) {
-    let mut text = [0u8; 65];
+    let mut text = [0u8; REPLY_LIMIT];
     let n = logline::spell::spell_reply(&mut text, 0, a, b, c);
     print_front(&text, n);
 }
 
 // `-,value,reference,path` by way of a row
 fn print_row(value: u64, reference: &[u8], path: &[u8])
-    requires { ⌜ length (now reference) ≡ 20 ⌝ }
+    requires { ⌜ length (now reference) ≡ referenceSize ⌝ }
 {
-    if 200 < path.len() {
+    if PATH_LIMIT < path.len() {
         io::write_all(1, b"path over 200\n");
         return;
     }
-    let mut row = [0u8; 229];
+    let mut row = [0u8; ROW_SIZE];
     buffer::numbers::put64(&mut row, 0, value);
-    buffer::moves::copy_from(&mut row, 8, reference);
-    row[28] = path.len() as u8;
-    buffer::moves::copy_from(&mut row, 29, path);
-    let mut text = [0u8; 265];
+    buffer::moves::copy_from(&mut row, REFERENCE_AT, reference);
+    row[LENGTH_AT] = path.len() as u8;
+    buffer::moves::copy_from(&mut row, PATH_AT, path);
+    let mut text = [0u8; ROW_LINE_LIMIT];
     let n = logline::spell::spell_row(&mut text, 0, &row);
     print_front(&text, n);
 }
 
 fn print_addition(line: &[u8], value: u64, at: usize, path: usize)
-    requires { ⌜ at + 40 ≤ length (now line) ⌝ }
+    requires { ⌜ at + referenceDigits ≤ length (now line) ⌝ }
 {
-    let mut reference = [0u8; 20];
+    let mut reference = [0u8; REFERENCE_SIZE];
     logline::fields::reference(line, at, &mut reference);
     io::write_all(1, b"add ");
     print_row(value, &reference, logline::reader::rest_at(line, path));
@@ -98,7 +108,7 @@ fn print_event(event: Event, buf: &[u8]) {
 
 // Feeds one byte and prints what it ends; answers the state.
 fn feed(len: usize, buf: &mut [u8], byte: u8) -> usize
-    requires { ⌜ length (now buf) ≡ 512 ⌝ }
+    requires { ⌜ length (now buf) ≡ lineLimit ⌝ }
 {
     let pushed = logline::lines::push(Feed { len }, buf, byte);
     let event = pushed.event;
@@ -108,7 +118,7 @@ fn feed(len: usize, buf: &mut [u8], byte: u8) -> usize
 }
 
 fn feed_chunk(start: usize, buf: &mut [u8], chunk: &[u8]) -> usize
-    requires { ⌜ length (now buf) ≡ 512 ⌝ }
+    requires { ⌜ length (now buf) ≡ lineLimit ⌝ }
 {
     let mut len = start;
     let mut i: usize = 0;
@@ -120,7 +130,7 @@ fn feed_chunk(start: usize, buf: &mut [u8], chunk: &[u8]) -> usize
 }
 
 fn feed_front(len: usize, buf: &mut [u8], chunk: &[u8], n: usize) -> usize
-    requires { ⌜ length (now buf) ≡ 512 ⌝ }
+    requires { ⌜ length (now buf) ≡ lineLimit ⌝ }
 {
     if chunk.len() < n {
         return len;
@@ -129,7 +139,7 @@ fn feed_front(len: usize, buf: &mut [u8], chunk: &[u8], n: usize) -> usize
 }
 
 fn main() {
-    let mut buf = [0u8; 512];
+    let mut buf = [0u8; LINE_LIMIT];
     let mut chunk = [0u8; 61];
     print_event(logline::lines::finish(logline::lines::start()), &buf);
     io::write_all(1, b"begin\n");

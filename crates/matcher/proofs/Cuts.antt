@@ -68,6 +68,13 @@ begun-up (c ∷ t) = go (eqb c slash) refl (begun-up t)
     go true e ih f = eqb-true c slash e
     go false e ih f = ih f
 
+-- what stands before the first `/` is of no label
+pub skip-labels : (s : List ℕ) (r : ℕ) → r ≡ length (upToSlash s) → labelsOf (back s r) ≡ labelsOf s
+skip-labels s r h = ap labelsOf (tail-part r s ∙ ap (λ (n : ℕ). drop n s) h) ∙ sym (drop-up s)
+
+pub skip-begun : (s : List ℕ) (r : ℕ) → r ≡ length (upToSlash s) → Begun (back s r)
+skip-begun s r h = rw (tail-part r s, h) (begun-up s)
+
 pub cut-law : (s : List ℕ) (r : ℕ) → (length s ≡ 0 → ⊥) → Begun s → r ≡ length (upToSlash (rest s)) → r ≤ length (rest s) → Cut s (r + 1)
 cut-law [] r f b h l = absurd (f refl)
 cut-law (c ∷ t) r f b h l =

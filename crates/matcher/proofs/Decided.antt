@@ -15,7 +15,7 @@ use Rattle.matcher.specs.Form.{apart, pathLabel, patternLabel, formedPat
 use Rattle.matcher.specs.Fit.{fit, fitLabels, fitsPath}
 use Rattle.matcher.specs.Matches.{matches}
 use Rattle.matcher.specs.Continued.{Continued, ended, Told}
-use Rattle.matcher.specs.Reach.{beginsPath, beginsLabels, reachWhole, reachOpen, reachOf, goesOn, Reached}
+use Rattle.matcher.specs.Reach.{beginsPath, beginsLabels, reachWhole, reachOpen, reachFormed, reachOf, goesOn, Reached}
 use Rattle.matcher.specs.Inner.{Begun}
 use Rattle.matcher.specs.declared.reach.Answer.{Answer}
 use Rattle.matcher.specs.declared.reach.Answer.the-variants.{Match, Mismatch, Incomplete}
@@ -109,18 +109,20 @@ pub reached : (pattern known : List ℕ) (r : Answer) → r ≡ reachOf pattern 
 reached pattern known r e = record { is = e; told = subst (Told pattern known) (sym e) (told pattern known) }
 
 -- the answer, as the code meets it: nothing known, the last byte is the end byte, or it is not
-module _ (pattern known : List ℕ) (P : isFine (patternForm pattern) ≡ true) where
-  pub reach-none : length known ≡ 0 → reachOf pattern known ≡ reachOpen pattern known
-  unfolding reachOf
-  reach-none l = rw (no-items known l, P)
+module _ (pattern known : List ℕ) where
+  pub reach-none : length known ≡ 0 → reachFormed pattern known ≡ reachOpen pattern known
+  reach-none l = rw (no-items known l)
 
-  pub reach-end : (length known ≡ 0 → ⊥) → lastByte known ≡ endByte → reachOf pattern known ≡ reachWhole pattern (take (length known - 1) known)
-  unfolding reachOf
-  reach-end f e = rw (P, not-none known f, eq-eqb (lastByte known) endByte e)
+  pub reach-end : (length known ≡ 0 → ⊥) → lastByte known ≡ endByte → reachFormed pattern known ≡ reachWhole pattern (take (length known - 1) known)
+  reach-end f e = rw (not-none known f, eq-eqb (lastByte known) endByte e)
 
-  pub reach-more : (length known ≡ 0 → ⊥) → (lastByte known ≡ endByte → ⊥) → reachOf pattern known ≡ reachOpen pattern known
-  unfolding reachOf
-  reach-more f e = rw (P, not-none known f, ne-eqb (lastByte known) endByte e)
+  pub reach-more : (length known ≡ 0 → ⊥) → (lastByte known ≡ endByte → ⊥) → reachFormed pattern known ≡ reachOpen pattern known
+  reach-more f e = rw (not-none known f, ne-eqb (lastByte known) endByte e)
+
+-- of a formed pattern it is the answer
+pub reached-formed : (pattern known : List ℕ) (r : Answer) → r ≡ reachFormed pattern known → isFine (patternForm pattern) ≡ true → Reached pattern known r
+unfolding reachOf
+reached-formed pattern known r e P = reached pattern known r (e ∙ rw P)
 
 pub reach-unformed : (pattern known : List ℕ) → isFine (patternForm pattern) ≡ false → reachOf pattern known ≡ Mismatch
 unfolding reachOf

@@ -8,10 +8,7 @@ use lib.ListN.{length, take, drop, getD, length-drop, drop-of-length-le}
 use lib.Seq.{take-all, drop-cons, drop-drop}
 use mathlib.Core.Bool.{false}
 use Rattle.buffer.specs.Lists.{none}
-
--- a part that runs to the end
-pub tail-part : {A : Type 0} (n : ℕ) (l : List A) → take (length l - n) (drop n l) ≡ drop n l
-tail-part n l = take-all (length l - n) (drop n l) (simp length-drop (omega arith))
+pub use Rattle.buffer.proofs.Lists.{tail-part}
 
 pub no-items : {A : Type 0} (l : List A) → length l ≡ 0 → l ≡ []
 no-items [] e = refl

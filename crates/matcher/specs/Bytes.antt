@@ -2,6 +2,8 @@
 use Prim.Native.Nat.{ℕ}
 use mathlib.Core.Bool.{Bool, not, _&&_, _||_}
 use lib.Dec.{eqb, leb}
+-- the most bytes of a path, and of a pattern
+pub use Rattle.buffer.specs.Sizes.{pathLimit}
 
 -- `/`
 abbrev pub slash : ℕ
@@ -14,10 +16,6 @@ star = 0x2A
 -- the end byte, which follows a path inside the index
 abbrev pub endByte : ℕ
 endByte = 0x00
-
--- the most bytes of a path, and of a pattern
-abbrev pub pathLimit : ℕ
-pathLimit = 200
 
 -- the most labels of a pattern
 abbrev pub patternLabelLimit : ℕ

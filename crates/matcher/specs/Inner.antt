@@ -1,4 +1,4 @@
--- What the functions below the public ones promise. No public contract but that of `fits_formed` (`Begun`) cites these.
+-- What the functions below the public ones promise. No public contract cites these.
 use Prim.Native.Nat.{ℕ, _-_, _≤_}
 use mathlib.Core.Path.{_≡_}
 use mathlib.Core.List.{List, _∷_}

@@ -39,10 +39,13 @@ reachWhole pattern path = cond (formedPath path && fitsPath pattern path) Match 
 abbrev pub reachOpen : List ℕ → List ℕ → Answer
 reachOpen pattern known = cond (beginsPath known && beginsLabels (labelsOf pattern) (labelsOf known)) Incomplete Mismatch
 
+-- the answer by the labels of a pattern
+abbrev pub reachFormed : List ℕ → List ℕ → Answer
+reachFormed pattern known = cond (ended known) (reachWhole pattern (take (length known - 1) known)) (reachOpen pattern known)
+
 -- the answer; for a pattern that is not formed it is a mismatch
 unfoldable pub reachOf : List ℕ → List ℕ → Answer
-reachOf pattern known =
-    cond (isFine (patternForm pattern)) (cond (ended known) (reachWhole pattern (take (length known - 1) known)) (reachOpen pattern known)) Mismatch
+reachOf pattern known = cond (isFine (patternForm pattern)) (reachFormed pattern known) Mismatch
 
 -- the answer is not a mismatch: a child is entered where this holds of the bytes known at its parent with the branching byte added
 abbrev pub goesOn : Answer → Bool

@@ -11,7 +11,7 @@ pub const STAR: u8 = 0x2A;
 pub const END: u8 = 0x00;
 
 // The most bytes of a path, and of a pattern.
-pub const PATH_LIMIT: usize = 200;
+pub use buffer::sizes::PATH_LIMIT;
 
 // The most labels of a pattern.
 pub const PATTERN_LABEL_LIMIT: usize = 32;

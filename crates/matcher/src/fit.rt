@@ -6,6 +6,7 @@ use crate::form::check_pattern;
 use crate::form::is_fine;
 use crate::split::is_deep;
 use crate::split::label_end;
+use crate::split::label_len;
 ghost use mathlib.Core.Path.{_≡_};
 ghost use Rattle.matcher.specs.Labels.{labelsOf};
 ghost use Rattle.matcher.specs.Fit.{afterSome, fitsLabel, fitLabels, fitsPath};
@@ -85,7 +86,7 @@ fn labels(pattern: &[u8], path: &[u8]) -> Trial
         if path.len() == 0 {
             return Trial::Fits;
         }
-        return Trial::Fails;
+        return Trial::Fails; // but a `**` before may take more labels
     }
     let a = label_end(pattern);
     if is_deep(&pattern[1..a]) {
@@ -98,7 +99,7 @@ fn labels(pattern: &[u8], path: &[u8]) -> Trial
     if label_fits(&pattern[1..a], &path[1..b]) {
         return labels(&pattern[a..], &path[b..]);
     }
-    Trial::Fails
+    Trial::Fails // but a `**` before may take this label and try the next
 }
 
 // Descendant matching: tries the rest of a path against `**` and the pattern that remains. `**` takes one label more in each turn.
@@ -120,13 +121,14 @@ fn descend(pattern: &[u8], path: &[u8]) -> Trial
     labels(pattern, &path[b..])
 }
 
-// Does a formed path fit a formed pattern? For callers that have checked both, as the search: nothing is checked again, and a
-// pattern of any length would be tried, with a stack as deep as it is long.
+// Do the labels of a path fit those of a pattern? For callers that have checked both once, as the search: nothing is checked again. Of any
+// bytes it answers by their labels, which begin at the first `/`. The stack goes as deep as the pattern has bytes.
 pub fn fits_formed(pattern: &[u8], path: &[u8]) -> bool
-    requires { ⌜ Begun (now pattern) × Begun (now path) ⌝ }
     ensures { λ r. ⌜ r ≡ fitsPath (now (pattern .entry)) (now (path .entry)) ⌝ }
 {
-    is_fit(labels(pattern, path))
+    let a = label_len(pattern);
+    let b = label_len(path);
+    is_fit(labels(&pattern[a..], &path[b..]))
 }
 
 // Does a path match a pattern? False where either is not formed. For callers that have checked neither, as the sprayer's filter.

@@ -9,11 +9,12 @@ use crate::form::is_fine;
 use crate::form::is_path;
 use crate::split::is_deep;
 use crate::split::label_end;
+use crate::split::label_len;
 ghost use mathlib.Core.Path.{_≡_};
 ghost use mathlib.Core.Bool.{true};
 ghost use Rattle.matcher.specs.Labels.{labelsOf};
 ghost use Rattle.matcher.specs.Form.{patternForm, isFine};
-ghost use Rattle.matcher.specs.Reach.{beginsLabel, beginsLabels, reachWhole, reachOpen, Reached};
+ghost use Rattle.matcher.specs.Reach.{beginsLabel, beginsLabels, reachWhole, reachOpen, reachFormed, Reached};
 ghost use Rattle.matcher.specs.Inner.{Begun};
 
 // What the bytes known of a path say of a pattern.
@@ -69,7 +70,6 @@ fn labels_begin(pattern: &[u8], known: &[u8]) -> bool
 
 // The path is known whole.
 fn reach_whole(pattern: &[u8], path: &[u8]) -> Answer
-    requires { ⌜ Begun (now pattern) ⌝ }
     ensures { λ r. ⌜ r ≡ reachWhole (now (pattern .entry)) (now (path .entry)) ⌝ }
 {
     if !is_path(path) {
@@ -83,22 +83,23 @@ fn reach_whole(pattern: &[u8], path: &[u8]) -> Answer
 
 // The path goes on.
 fn reach_open(pattern: &[u8], known: &[u8]) -> Answer
-    requires { ⌜ Begun (now pattern) ⌝ }
     ensures { λ r. ⌜ r ≡ reachOpen (now (pattern .entry)) (now (known .entry)) ⌝ }
 {
     if !begins_path(known) {
         return Answer::Mismatch;
     }
-    if labels_begin(pattern, known) {
+    let a = label_len(pattern);
+    if labels_begin(&pattern[a..], known) {
         return Answer::Incomplete;
     }
-    Answer::Mismatch
+    Answer::Mismatch // however the path goes on
 }
 
-// The answer for a pattern that has been checked: for the search, which asks at every child with the same pattern.
+// The answer without a check of the pattern: for the search, which checks its pattern once and then asks at every child. For a pattern that
+// is formed it is the answer of `reach`; of any other bytes it answers by their labels, which begin at the first `/`.
 pub fn reach_formed(pattern: &[u8], known: &[u8]) -> Answer
-    requires { ⌜ isFine (patternForm (now pattern)) ≡ true ⌝ }
-    ensures { λ r. ⌜ Reached (now (pattern .entry)) (now (known .entry)) r ⌝ }
+    ensures { λ r. ⌜ r ≡ reachFormed (now (pattern .entry)) (now (known .entry)) ⌝ }
+    ensures { λ r. ⌜ (isFine (patternForm (now (pattern .entry))) ≡ true → Reached (now (pattern .entry)) (now (known .entry)) r) ⌝ }
 {
     let n = known.len();
     if n == 0 {

@@ -1,9 +1,16 @@
 // Runs the outside cases of crate `rows` and prints them; tools/oracle/rows.py prints the same by other means.
 ghost use Prim.Native.Nat.{_+_, _*_, _≤_, _<_};
 ghost use lib.ListN.{length};
+ghost use Rattle.rows.specs.Sizes.{pathLimit, rowSize};
 use rows::order::Ordering;
+use rows::sizes::LENGTH_AT;
+use rows::sizes::PATH_AT;
 use rows::sizes::RECORD_SIZE;
+use rows::sizes::REFERENCE_AT;
 use rows::sizes::ROW_SIZE;
+
+// The last byte of a reference.
+const MARK_AT: usize = LENGTH_AT - 1;
 
 // One turn of a linear congruential generator of 31 bits.
 fn next(x: u64) -> u64
@@ -15,13 +22,13 @@ fn next(x: u64) -> u64
 
 // Writes the row of an entry, its reference zeros but for the last byte.
 fn put(s: &mut [u8], at: usize, value: u64, path: &[u8], mark: u8)
-    requires { ⌜ (at + 229 ≤ length (now s)) × (length (now path) ≤ 200) ⌝ }
+    requires { ⌜ (at + rowSize ≤ length (now s)) × (length (now path) ≤ pathLimit) ⌝ }
 {
     buffer::moves::clear(s, at, ROW_SIZE);
     buffer::numbers::put64(s, at, value);
-    s[at + 27] = mark;
-    s[at + 28] = path.len() as u8;
-    buffer::moves::copy_from(s, at + 29, path);
+    s[at + MARK_AT] = mark;
+    s[at + LENGTH_AT] = path.len() as u8;
+    buffer::moves::copy_from(s, at + PATH_AT, path);
 }
 
 fn letter(x: u64) -> u8 {
@@ -30,7 +37,7 @@ fn letter(x: u64) -> u8 {
 
 // A record with few values, paths and references, so that many are equal; what follows the row differs.
 fn generate(s: &mut [u8], at: usize, width: usize, x: u64)
-    requires { ⌜ (229 ≤ width) × (at + width ≤ length (now s)) × (x < 2147483648) ⌝ }
+    requires { ⌜ (rowSize ≤ width) × (at + width ≤ length (now s)) × (x < 2147483648) ⌝ }
 {
     let mut path = [b'/'; 8];
     path[1] = letter(x / 262144);
@@ -52,7 +59,7 @@ fn generate(s: &mut [u8], at: usize, width: usize, x: u64)
 }
 
 fn fill(s: &mut [u8], from: usize, to: usize, width: usize, seed: u64)
-    requires { ⌜ (229 ≤ width) × (to ≤ length (now s)) × (from ≤ to) × (seed < 2147483648) ⌝ }
+    requires { ⌜ (rowSize ≤ width) × (to ≤ length (now s)) × (from ≤ to) × (seed < 2147483648) ⌝ }
 {
     let mut at = from;
     let mut x = seed;
@@ -89,17 +96,17 @@ fn print_number(n: u64) {
 
 // Value, path, reference, and the byte after the row where there is one.
 fn print_record(s: &[u8], at: usize, width: usize)
-    requires { ⌜ (229 ≤ width) × (at + width ≤ length (now s)) ⌝ }
+    requires { ⌜ (rowSize ≤ width) × (at + width ≤ length (now s)) ⌝ }
 {
     print_number(buffer::numbers::get64(s, at));
     print_text(b",");
-    let start = at + 29;
-    let end = start + wide(s[at + 28]) as usize;
+    let start = at + PATH_AT;
+    let end = start + wide(s[at + LENGTH_AT]) as usize;
     if end <= s.len() {
         print_text(&s[start..end]);
     }
     print_text(b",");
-    print_hex(s, at + 8, at + 28);
+    print_hex(s, at + REFERENCE_AT, at + LENGTH_AT);
     if ROW_SIZE < width {
         print_text(b",");
         print_hex(s, at + ROW_SIZE, at + ROW_SIZE + 1);
@@ -108,7 +115,7 @@ fn print_record(s: &[u8], at: usize, width: usize)
 }
 
 fn print_records(s: &[u8], from: usize, to: usize, width: usize)
-    requires { ⌜ (229 ≤ width) × (to ≤ length (now s)) × (from ≤ to) ⌝ }
+    requires { ⌜ (rowSize ≤ width) × (to ≤ length (now s)) × (from ≤ to) ⌝ }
 {
     let mut at = from;
     while width <= to - at {
@@ -119,7 +126,7 @@ fn print_records(s: &[u8], from: usize, to: usize, width: usize)
 
 // The records between the first three bytes and the one at `end`, and those bytes.
 fn print_case(s: &[u8], end: usize, width: usize)
-    requires { ⌜ (229 ≤ width) × (3 ≤ end) × (end < length (now s)) ⌝ }
+    requires { ⌜ (rowSize ≤ width) × (3 ≤ end) × (end < length (now s)) ⌝ }
 {
     print_hex(s, 0, 3);
     print_text(b"\n");
@@ -130,7 +137,7 @@ fn print_case(s: &[u8], end: usize, width: usize)
 
 // Sorts n records that stand behind three bytes and before one.
 fn sort_case(s: &mut [u8], n: usize, width: usize)
-    requires { ⌜ (229 ≤ width) × (4 + n * width ≤ length (now s)) ⌝ }
+    requires { ⌜ (rowSize ≤ width) × (4 + n * width ≤ length (now s)) ⌝ }
 {
     print_text(b"sort ");
     print_number(n as u64);
@@ -147,10 +154,10 @@ fn sort_case(s: &mut [u8], n: usize, width: usize)
 
 // Compares the rows of two entries.
 fn compare_case(v: u64, p: &[u8], r: u8, w: u64, q: &[u8], t: u8)
-    requires { ⌜ (length (now p) ≤ 200) × (length (now q) ≤ 200) ⌝ }
+    requires { ⌜ (length (now p) ≤ pathLimit) × (length (now q) ≤ pathLimit) ⌝ }
 {
-    let mut x = [0u8; 229];
-    let mut y = [0u8; 229];
+    let mut x = [0u8; ROW_SIZE];
+    let mut y = [0u8; ROW_SIZE];
     put(&mut x, 0, v, p, r);
     put(&mut y, 0, w, q, t);
     print_record(&x, 0, ROW_SIZE);
@@ -175,7 +182,7 @@ fn main() {
     compare_case(1, b"/z", 9, 256, b"/a", 0);
     compare_case(5, b"/a", 2, 5, b"/a", 1);
     compare_case(5, b"/a", 2, 5, b"/a", 2);
-    let mut s = [0u8; 229004];
+    let mut s = [0u8; 4 + 1000 * ROW_SIZE];
     sort_case(&mut s, 0, ROW_SIZE);
     sort_case(&mut s, 1, ROW_SIZE);
     sort_case(&mut s, 2, ROW_SIZE);

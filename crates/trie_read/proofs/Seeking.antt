@@ -18,6 +18,7 @@ use Rattle.trie_theory.specs.SmallTrie.{meets, ahead, alone, outcome, added}
 use Rattle.trie_theory.specs.Sound.{Ascending}
 use Rattle.trie_theory.specs.Size.{height}
 use Rattle.trie_theory.specs.Encode.{Regular, encode, nodeBytes, suffixBytes}
+use Rattle.trie_theory.proofs.Branching.{meets-apart}
 use Rattle.trie_read.specs.Shape.{aboveOf, part}
 use Rattle.trie_read.specs.Heads.{headOf}
 use Rattle.trie_read.specs.Places.{top, Passed, Here}
@@ -47,8 +48,7 @@ module _ (above : Above) (k s : Strings) where
   ahead-no us l = rw (le-ltb (branching above k) (branching above s) l)
 
   pub apart : (branching above s ≡ branching above k → ⊥) → meets above s k ≡ false
-  unfolding meets
-  apart n = ne-eqb (branching above s) (branching above k) n
+  apart n = meets-apart above s k n
 
 -- ---- one sibling
 

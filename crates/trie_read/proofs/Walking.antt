@@ -5,7 +5,6 @@ use Prim.Native.Nat.{ℕ, zero, suc, _+_, _-_, _≤_}
 use mathlib.Core.List.{List, [], _∷_, _++_, map}
 use mathlib.Core.Logic.{_⊎_, inl, inr, ⊎-elim}
 use native.Mathlib.Omega.{arith}
-use native.Mathlib.Decide.{ℕ-discrete}
 use lib.ListN.{length, drop}
 use lib.Dec.{eqb}
 use borrow.Author.Tests.{eq-eqb}
@@ -17,6 +16,7 @@ use Rattle.trie_theory.specs.SmallTrie.{meets}
 use Rattle.trie_theory.specs.Lookup.{member, among}
 use Rattle.trie_theory.specs.Encode.{Regular, encode}
 use Rattle.buffer.proofs.Tests.{and-left, and-right}
+pub use Rattle.buffer.proofs.Tests.{same?}
 use Rattle.trie_theory.proofs.Strings.{first-at}
 use Rattle.trie_read.proofs.Compare.{begins-length}
 use Rattle.trie_read.proofs.Node.{head-end, head-good, LeafView, InnerView, Places, leaf-view, inner-view, two, strings-are}
@@ -42,9 +42,6 @@ module _ (nv np v p : List ℕ) where
 rest-two : (a b v p r : List ℕ) → remains (a ∷ b ∷ []) (keyOf v p r) ≡ keyOf (drop (length a) v) (drop (length b) p) r
 unfolding remains strip
 rest-two a b v p r = refl
-
-pub same? : (a b : ℕ) → (a ≡ b) ⊎ (a ≡ b → ⊥)
-same? a b = elim (ℕ-discrete a b) [ yes e ↦ inl e | no h ↦ inr h ]
 
 nothing : (above : Above) (x : Key) → member above none x ≡ false
 unfolding member

@@ -1,3 +1,4 @@
+pub mod Sizes
 pub mod Shape
 pub mod Heads
 pub mod Suffixes

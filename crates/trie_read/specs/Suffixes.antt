@@ -7,6 +7,7 @@ use Rattle.trie_theory.specs.Forest.{Key}
 use Rattle.buffer.specs.Lists.{flat}
 use Rattle.trie_theory.specs.Strings.{at}
 use Rattle.trie_theory.specs.Encode.{suffixBytes}
+use Rattle.trie_read.specs.Sizes.{suffixSize}
 use Rattle.trie_read.specs.declared.suffixes.Tail.{Tail}
 use Rattle.trie_read.specs.declared.suffixes.Tail.the-variants.{End, Bad, At}
 
@@ -15,10 +16,10 @@ suffixesBytes ts = flat (map suffixBytes ts)
 
 unfoldable pub tailOf : List Key → Tail
 tailOf [] = End
-tailOf (t ∷ ts) = At (22 + length (at 0 (t .strings))) (22 + length (at 0 (t .strings)) + length (at 1 (t .strings)))
+tailOf (t ∷ ts) = At (suffixSize + length (at 0 (t .strings))) (suffixSize + length (at 0 (t .strings)) + length (at 1 (t .strings)))
 
 -- the places lie in n bytes, in their sequence
 abbrev pub Within : Tail → ℕ → Type 0
 Within End n = n ≡ 0
 Within Bad n = Unit {0}
-Within (At path next) n = (22 ≤ path) × (path ≤ next) × (next ≤ n)
+Within (At path next) n = (suffixSize ≤ path) × (path ≤ next) × (next ≤ n)

@@ -5,8 +5,9 @@ ghost use lib.ListN.{length};
 ghost use Rattle.trie_theory.specs.Forest.{Forest};
 ghost use Rattle.trie_theory.specs.Encode.{Regular, encode};
 ghost use Rattle.trie_read.specs.Heads.{headOf, Inside};
+use crate::sizes::FRONT_SIZE;
 
-// `End`: no bytes. `Bad`: no node begins here. `Node`: its value string is t[7..path], its path string t[path..body], its body
+// `End`: no bytes. `Bad`: no node begins here. `Node`: its value string is t[FRONT_SIZE..path], its path string t[path..body], its body
 // t[body..next], and its later siblings are t[next..].
 pub enum Head {
     End,
@@ -38,11 +39,11 @@ pub fn read_head(t: &[u8]) -> Head
     if t.len() == 0 {
         return Head::End;
     }
-    if t.len() < 7 {
+    if t.len() < FRONT_SIZE {
         return Head::Bad;
     }
     let kind = wide(t[0]);
-    let path = 7 + wide(t[1]);
+    let path = FRONT_SIZE + wide(t[1]);
     let body = path + wide(t[2]);
     let next = body + wide32(buffer::numbers::get32(t, 3));
     if next <= t.len() {

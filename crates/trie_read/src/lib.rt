@@ -4,5 +4,6 @@
 pub mod head;
 pub mod lookup;
 pub mod place;
+pub mod sizes;
 pub mod strings;
 pub mod suffixes;

@@ -1,5 +1,6 @@
 // The suffixes of a leaf, one after another: v | p | reference, 20 bytes | v value bytes | p path bytes.
 use crate::head::wide;
+use crate::sizes::SUFFIX_SIZE;
 use rows::order::equal;
 ghost use mathlib.Core.Path.{_≡_};
 ghost use Prim.Native.Nat.{_≤_};
@@ -8,10 +9,11 @@ ghost use lib.ListN.{length};
 ghost use Rattle.trie_theory.specs.Forest.{Key};
 ghost use Rattle.buffer.specs.Lists.{All};
 ghost use Rattle.trie_theory.specs.Lookup.{among, sameKey};
+ghost use Rattle.trie_read.specs.Sizes.{suffixSize};
 ghost use Rattle.trie_read.specs.Shape.{Fixed, keyOf, part};
 ghost use Rattle.trie_read.specs.Suffixes.{suffixesBytes, tailOf, Within};
 
-// `End`: no bytes. `Bad`: no suffix begins here. `At`: the reference is b[2..22], the value bytes b[22..path], the path bytes
+// `End`: no bytes. `Bad`: no suffix begins here. `At`: the reference is b[2..SUFFIX_SIZE], the value bytes b[SUFFIX_SIZE..path], the path bytes
 // b[path..next], and the later suffixes b[next..].
 pub enum Tail {
     End,
@@ -26,10 +28,10 @@ pub fn read_suffix(b: &[u8]) -> Tail
     if b.len() == 0 {
         return Tail::End;
     }
-    if b.len() < 22 {
+    if b.len() < SUFFIX_SIZE {
         return Tail::Bad;
     }
-    let path = 22 + wide(b[0]);
+    let path = SUFFIX_SIZE + wide(b[0]);
     let next = path + wide(b[1]);
     if next <= b.len() {
         Tail::At { path, next }
@@ -47,13 +49,13 @@ fn suffix_is(
     rest: &[u8],
     reference: &[u8],
 ) -> bool
-    requires { ⌜ (22 ≤ path) × (path ≤ next) × (next ≤ length (now b)) ⌝ }
+    requires { ⌜ (suffixSize ≤ path) × (path ≤ next) × (next ≤ length (now b)) ⌝ }
     ensures { λ r.
-        ⌜ r ≡ sameKey (keyOf (now (value .entry)) (now (rest .entry)) (now (reference .entry))) (keyOf (part 22 path (now (b .entry))) (part path next (now (b .entry))) (part 2 22 (now (b .entry)))) ⌝ }
+        ⌜ r ≡ sameKey (keyOf (now (value .entry)) (now (rest .entry)) (now (reference .entry))) (keyOf (part suffixSize path (now (b .entry))) (part path next (now (b .entry))) (part 2 suffixSize (now (b .entry)))) ⌝ }
 {
-    if equal(value, &b[22..path]) {
+    if equal(value, &b[SUFFIX_SIZE..path]) {
         if equal(rest, &b[path..next]) {
-            return equal(reference, &b[2..22]);
+            return equal(reference, &b[2..SUFFIX_SIZE]);
         }
     }
     false

@@ -7,16 +7,17 @@ use native.Mathlib.Omega.{arith}
 use lib.ListN.{length, length-append}
 use borrow.Author.Tests.{eqb-true}
 use Rattle.trie_theory.specs.Forest.{Strings, Key}
+use Rattle.buffer.specs.Sizes.{valueSize, pathLimit}
 use Rattle.buffer.specs.Lists.{All, nil, cons}
 use Rattle.trie_theory.specs.Strings.{at, total}
-use Rattle.trie_theory.specs.Entries.{complete, Stops, isValue, isPath, dims, Entry}
+use Rattle.trie_theory.specs.Entries.{complete, Stops, isValue, isPath, dims, keyLimit, Entry}
 use Rattle.buffer.proofs.Tests.{and-left, and-right}
 use Rattle.trie_theory.proofs.Free.{Free}
 
 value-stops : Stops isValue
 unfolding Stops isValue
 value-stops u [] p q = refl
-value-stops u (b ∷ v) p q = absurd (omega (arith, eqb-true (length u) 8 p, eqb-true (length (u ++ (b ∷ v))) 8 q, length-append u (b ∷ v)))
+value-stops u (b ∷ v) p q = absurd (omega (arith, eqb-true (length u) valueSize p, eqb-true (length (u ++ (b ∷ v))) valueSize q, length-append u (b ∷ v)))
 
 path-stops : Stops isPath
 unfolding Stops isPath
@@ -56,15 +57,15 @@ pub complete-free : {cs : List (List ℕ → Bool)} → All Stops cs → (x y : 
 unfolding Free
 complete-free h x y p q = free-at h (x .strings) (y .strings) p q
 
--- an entry has two strings of at most 209 bytes
-entry-bytes : (k : Strings) → complete dims k ≡ true → length (at 1 k) ≤ 201 → total k ≤ 209
+-- an entry has two strings, of at most so many bytes
+entry-bytes : (k : Strings) → complete dims k ≡ true → length (at 1 k) ≤ pathLimit + 1 → total k ≤ keyLimit
 unfolding complete dims total isValue
 entry-bytes [] e l = omega arith
 entry-bytes (v ∷ []) e l = absurd (false≢true (and-right (isValue v) false e))
-entry-bytes (v ∷ p ∷ []) e l = omega (arith, l, eqb-true (length v) 8 (and-left (isValue v) (isPath p && true) e))
+entry-bytes (v ∷ p ∷ []) e l = omega (arith, l, eqb-true (length v) valueSize (and-left (isValue v) (isPath p && true) e))
 entry-bytes (v ∷ p ∷ q ∷ ss) e l = absurd (false≢true (and-right (isPath p) false (and-right (isValue v) (isPath p && false) e)))
 
-pub entry-total : (x : Key) → Entry x → total (x .strings) ≤ 209
+pub entry-total : (x : Key) → Entry x → total (x .strings) ≤ keyLimit
 entry-total x e = entry-bytes (x .strings) (e .whole) (e .short)
 
 pub entry-wide : (x : Key) → Entry x → length (x .strings) ≡ 2

@@ -10,10 +10,12 @@ use Rattle.trie_theory.specs.Strings.{total}
 use Rattle.trie_theory.specs.Dimensions.{Above, below}
 use Rattle.trie_theory.specs.Sound.{Wide, Sound}
 use Rattle.trie_theory.specs.Encode.{suffixBytes, nodeBytes, encode, Twenty, Regular}
+use Rattle.buffer.specs.Sizes.{referenceSize}
 use Rattle.buffer.specs.Numbers.{bytesOf, number}
 use Rattle.buffer.proofs.Digits.{length-bytesOf, number-bytesOf}
 use Rattle.trie_theory.specs.Size.{cost}
 use Rattle.buffer.proofs.Lists.{all-left, all-right, all-unmap, all-both}
+pub use Rattle.buffer.proofs.Lists.{halves}
 
 pub sound-regular : (n : ℕ) (above : Above) (k : Strings) (f : Forest) → Sound n above f → All Twenty (keys k f) → Regular n f
 unfolding Regular Sound keys under
@@ -47,7 +49,7 @@ length-node kind s body =
       length-flat s,
     )
 
-pub length-suffix : (n : ℕ) (t : Key) → Wide n t → Twenty t → length (suffixBytes t) ≡ 20 + n + total (t .strings)
+pub length-suffix : (n : ℕ) (t : Key) → Wide n t → Twenty t → length (suffixBytes t) ≡ referenceSize + n + total (t .strings)
 unfolding suffixBytes
 length-suffix n t w r =
     omega (
@@ -59,14 +61,14 @@ length-suffix n t w r =
     )
 
 length-suffixes : (n : ℕ) {ts : List Key} → All (λ t. Wide n t × Twenty t) ts
-    → length (flat (map suffixBytes ts)) ≡ sum (λ t. 20 + n + total (t .strings)) ts
+    → length (flat (map suffixBytes ts)) ≡ sum (λ t. referenceSize + n + total (t .strings)) ts
 unfolding flat sum
 length-suffixes n nil = refl
 length-suffixes n (cons {x = t} {xs = ts} h a) =
     omega (arith, length-append (suffixBytes t) (flat (map suffixBytes ts)), length-suffix n t (h .0) (h .1), length-suffixes n a)
 
 -- AS MANY BYTES AS ITS COST: in two dimensions 7 for a node and 22 for a suffix
-pub length-encode : (n : ℕ) (f : Forest) → Regular n f → length (encode f) ≡ cost (5 + n) (20 + n) f
+pub length-encode : (n : ℕ) (f : Forest) → Regular n f → length (encode f) ≡ cost (5 + n) (referenceSize + n) f
 unfolding encode cost Regular
 length-encode n none h = refl
 length-encode n (leaf s ts more) h =
@@ -88,16 +90,6 @@ length-encode n (inner d s kids more) h =
       length-encode n kids (h .1),
       length-encode n more (h .2),
     )
-
--- two halves of equal lists, the first ones equally long
-pub halves : (a c b d : List ℕ) → length a ≡ length c → a ++ b ≡ c ++ d → (a ≡ c) × (b ≡ d)
-halves [] [] b d l e = (refl, e)
-halves [] (y ∷ c) b d l e = absurd (omega arith)
-halves (x ∷ a) [] b d l e = absurd (omega arith)
-halves (x ∷ a) (y ∷ c) b d l e =
-    let i : x ≡ y = cc in
-    let r = halves a c b d (omega arith) (cc) in
-    (ap₂ _∷_ i (r .0), r .1)
 
 -- strings by their lengths and their bytes one after the other
 strings-parts : (s t : Strings) (a b : List ℕ) → map length s ≡ map length t → flat s ++ a ≡ flat t ++ b → (s ≡ t) × (a ≡ b)

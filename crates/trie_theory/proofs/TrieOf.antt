@@ -9,6 +9,7 @@ use lib.ListN.{length}
 use lib.Dec.{eqb, leb}
 use borrow.Author.Tests.{eqb-true, eq-eqb, leb-true, le-leb}
 use Rattle.trie_theory.specs.Forest.{Key, Forest, keys}
+use Rattle.buffer.specs.Sizes.{referenceSize}
 use Rattle.buffer.specs.Lists.{All, pick, sum, count}
 use Rattle.trie_theory.specs.Strings.{total}
 use Rattle.trie_theory.specs.Dimensions.{root}
@@ -18,7 +19,7 @@ use Rattle.trie_theory.specs.Lookup.{sameKey, among}
 use Rattle.trie_theory.specs.Sound.{Wide, Sound, Ascending, Bare}
 use Rattle.trie_theory.specs.Encode.{encode}
 use Rattle.trie_theory.specs.Size.{height}
-use Rattle.trie_theory.specs.Entries.{complete, Stops, dims, Entry}
+use Rattle.trie_theory.specs.Entries.{complete, Stops, dims, keyLimit, Entry}
 use Rattle.trie_theory.specs.TrieOf.{TrieOf}
 use Rattle.buffer.proofs.Lists.{all-imp}
 use Rattle.buffer.proofs.Sums.{count-sum, equal-length, equal-picked, equal-all, equal-any}
@@ -46,8 +47,8 @@ sound-trie n m xs t s equal short named =
     equal-all (keys [] t) xs equal (λ x. leb (total (x .strings)) m) (λ x. total (x .strings) ≤ m)
     (λ x e. leb-true (total (x .strings)) m e) (λ x l. le-leb (total (x .strings)) m l) short in
     let named-keys : All Twenty (keys [] t) =
-    equal-all (keys [] t) xs equal (λ x. eqb (length (x .reference)) 20) Twenty
-    (λ x e. eqb-true (length (x .reference)) 20 e) (λ x e. eq-eqb (length (x .reference)) 20 e) named in
+    equal-all (keys [] t) xs equal (λ x. eqb (length (x .reference)) referenceSize) Twenty
+    (λ x e. eqb-true (length (x .reference)) referenceSize e) (λ x e. eq-eqb (length (x .reference)) referenceSize e) named in
     let many = equal-length (keys [] t) xs equal in
     record {
       sound = s;
@@ -59,13 +60,13 @@ sound-trie n m xs t s equal short named =
       few = omega (arith, nodes-known n root [] t s);
       high = height-bound m n t s short-keys;
       size =
-          rw many at (bytes (length-encode n t (sound-regular n root [] t s named-keys)) (cost-bound (5 + n) (20 + n) n m t s short-keys));
+          rw many at (bytes (length-encode n t (sound-regular n root [] t s named-keys)) (cost-bound (5 + n) (referenceSize + n) n m t s short-keys));
     }
   where
-    bytes : {c : ℕ} → length (encode t) ≡ c → c ≤ (5 + n + (5 + n) + (20 + n) + m) * length (keys [] t)
-        → length (encode t) ≤ (30 + 3 * n + m) * length (keys [] t)
+    bytes : {c : ℕ} → length (encode t) ≡ c → c ≤ (5 + n + (5 + n) + (referenceSize + n) + m) * length (keys [] t)
+        → length (encode t) ≤ (10 + referenceSize + 3 * n + m) * length (keys [] t)
     bytes e l =
-        let same : 5 + n + (5 + n) + (20 + n) + m ≡ 30 + 3 * n + m = omega arith in
+        let same : 5 + n + (5 + n) + (referenceSize + n) + m ≡ 10 + referenceSize + 3 * n + m = omega arith in
         rw (e, ← same) l
 
 -- A LEVEL, whose siblings ascend
@@ -85,15 +86,15 @@ small-trie cs stop m xs whole short named =
 
 -- OF ENTRIES
 module _ (xs : List Key) (entries : All Entry xs) where
-  pub level-entries : (τ : ℕ) → TrieOf 2 209 xs (levelOf 2 τ xs) × Ascending root (levelOf 2 τ xs)
-  level-entries τ = level-trie 2 209 τ xs (all-imp entry-wide entries) (all-imp entry-total entries) (all-imp (λ x e. e .named) entries)
+  pub level-entries : (τ : ℕ) → TrieOf 2 keyLimit xs (levelOf 2 τ xs) × Ascending root (levelOf 2 τ xs)
+  level-entries τ = level-trie 2 keyLimit τ xs (all-imp entry-wide entries) (all-imp entry-total entries) (all-imp (λ x e. e .named) entries)
 
-  pub small-entries : TrieOf 2 209 xs (smallTrie xs) × Ascending root (smallTrie xs) × Bare (smallTrie xs)
+  pub small-entries : TrieOf 2 keyLimit xs (smallTrie xs) × Ascending root (smallTrie xs) × Bare (smallTrie xs)
   unfolding dims
   small-entries =
-      small-trie dims dims-stop 209 xs (all-imp (λ x e. e .whole) entries) (all-imp entry-total entries)
+      small-trie dims dims-stop keyLimit xs (all-imp (λ x e. e .whole) entries) (all-imp entry-total entries)
       (all-imp (λ x e. e .named) entries)
 
 -- in figures: at most 245 bytes for each, and 210 nodes one below the other
-pub figures : {xs : List Key} {t : Forest} → TrieOf 2 209 xs t → (length (encode t) ≤ 245 * length xs) × (height t ≤ 210)
+pub figures : {xs : List Key} {t : Forest} → TrieOf 2 keyLimit xs t → (length (encode t) ≤ 245 * length xs) × (height t ≤ 210)
 figures r = (r .size, r .high)

@@ -7,6 +7,7 @@ use Prim.Native.Nat.{ℕ, suc}
 use mathlib.Core.Path.{_≡_}
 use mathlib.Core.List.{List, [], _∷_, _++_, map}
 use lib.ListN.{length}
+use Rattle.buffer.specs.Sizes.{referenceSize}
 use Rattle.buffer.specs.Numbers.{bytesOf}
 use Rattle.trie_theory.specs.Sound.{Wide}
 use Rattle.trie_theory.specs.Forest.{Strings, Key, Forest, none, leaf, inner}
@@ -26,7 +27,7 @@ encode (inner d s kids more) = nodeBytes (suc d) s (encode kids) ++ encode more
 
 -- a reference has 20 bytes
 abbrev pub Twenty : Key → Type 0
-Twenty x = length (x .reference) ≡ 20
+Twenty x = length (x .reference) ≡ referenceSize
 
 -- what the encoding asks for: n strings in each node and suffix, and references of 20 bytes
 unfoldable pub Regular : ℕ → Forest → Type 0

@@ -1,11 +1,12 @@
 -- Keys of entries: a test for each dimension, such that no string that passes is a proper beginning of another.
-use Prim.Native.Nat.{ℕ, zero, suc, _≤_, _<_}
+use Prim.Native.Nat.{ℕ, zero, suc, _+_, _≤_, _<_}
 use mathlib.Core.Path.{_≡_}
 use mathlib.Core.Bool.{Bool, true, false, _&&_}
 use mathlib.Core.List.{List, [], _∷_, _++_}
 use lib.ListN.{length}
 use lib.Dec.{eqb}
 use Rattle.trie_theory.specs.Forest.{Strings, Key, Forest, keys}
+use Rattle.buffer.specs.Sizes.{valueSize, referenceSize, pathLimit}
 use Rattle.buffer.specs.Lists.{All}
 use Rattle.trie_theory.specs.Strings.{at}
 use Rattle.trie_theory.specs.Dimensions.{root}
@@ -24,7 +25,7 @@ Stops c = (u v : List ℕ) → c u ≡ true → c (u ++ v) ≡ true → v ≡ []
 
 -- a value has eight bytes
 unfoldable pub isValue : List ℕ → Bool
-isValue s = eqb (length s) 8
+isValue s = eqb (length s) valueSize
 
 -- a path ends with its only byte 0
 unfoldable pub isPath : List ℕ → Bool
@@ -37,12 +38,16 @@ isPath (suc a ∷ s) = isPath s
 unfoldable pub dims : List (List ℕ → Bool)
 dims = isValue ∷ isPath ∷ []
 
--- the key of an entry: a value, a path of at most 201 bytes with its end byte, and a reference of 20
+-- the most bytes of the strings of an entry's key: value, path, end byte
+abbrev pub keyLimit : ℕ
+keyLimit = valueSize + (pathLimit + 1)
+
+-- the key of an entry: a value, a path of at most 200 bytes with its end byte, and a reference of 20
 pub record Entry (x : Key) : Type 0 where
   pub whole : complete dims (x .strings) ≡ true
-  pub short : length (at 1 (x .strings)) ≤ 201
+  pub short : length (at 1 (x .strings)) ≤ pathLimit + 1
   pub bytes : All (All (λ b. b < 256)) (x .strings)
-  pub named : length (x .reference) ≡ 20
+  pub named : length (x .reference) ≡ referenceSize
 
 -- a small trie, our own or another's: sound, and from the root to each leaf the strings join to one whole key
 pub record Small (cs : List (List ℕ → Bool)) (t : Forest) : Type 0 where

@@ -6,7 +6,7 @@ use Rattle.trie_theory.specs.Strings.{commons, strip, remains, total}
 use Rattle.trie_theory.specs.Dimensions.{Above, below}
 use Rattle.trie_theory.specs.SmallTrie.{outcome}
 
--- The bytes, where a node costs h beside its strings and a suffix u: in n dimensions h is 5 + n and u 20 + n
+-- The bytes, where a node costs h beside its strings and a suffix u: in n dimensions h is 5 + n and u referenceSize + n
 unfoldable pub cost : ℕ → ℕ → Forest → ℕ
 cost h u none = 0
 cost h u (leaf s ts more) = h + total s + sum (λ t. u + total (t .strings)) ts + cost h u more

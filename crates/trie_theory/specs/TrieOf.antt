@@ -5,6 +5,7 @@ use mathlib.Core.Bool.{Bool, true}
 use mathlib.Core.List.{List, []}
 use lib.ListN.{length}
 use Rattle.trie_theory.specs.Forest.{Strings, Key, Forest, keys, tops}
+use Rattle.buffer.specs.Sizes.{referenceSize}
 use Rattle.buffer.specs.Lists.{pick, count}
 use Rattle.trie_theory.specs.Strings.{goesOn}
 use Rattle.trie_theory.specs.Dimensions.{root}
@@ -29,4 +30,4 @@ pub record TrieOf (n m : ℕ) (xs : List Key) (t : Forest) : Type 0 where
   -- of N keys: at most 2 N - 1 nodes, at most m + 1 one below the other, and so many bytes
   pub few : nodes t + length (tops t) ≤ 2 * length xs
   pub high : height t ≤ suc m
-  pub size : length (encode t) ≤ (30 + 3 * n + m) * length xs
+  pub size : length (encode t) ≤ (10 + referenceSize + 3 * n + m) * length xs

@@ -3,14 +3,18 @@ use crate::write::put_leaf;
 use crate::write::put_suffix;
 use buffer::moves::copy_from;
 use buffer::moves::move_within;
+use trie_read::sizes::LEAF_SIZE;
+use trie_read::sizes::SUFFIX_SIZE;
 ghost use mathlib.Core.Path.{_≡_};
 ghost use Prim.Native.Nat.{_+_, _-_, _≤_, _<_};
 ghost use mathlib.Core.List.{[], _∷_, _++_};
 ghost use lib.ListN.{length};
+ghost use Rattle.buffer.specs.Sizes.{referenceSize};
 ghost use Rattle.buffer.specs.Splice.{splice, region};
 ghost use Rattle.trie_theory.specs.Forest.{none};
 ghost use Rattle.trie_theory.specs.SmallTrie.{alone};
 ghost use Rattle.trie_theory.specs.Encode.{encode, suffixBytes};
+ghost use Rattle.trie_read.specs.Sizes.{suffixSize, leafSize};
 ghost use Rattle.trie_read.specs.Shape.{keyOf};
 
 // A new leaf with all bytes of the key.
@@ -22,11 +26,11 @@ pub fn insert_leaf(
     path: &[u8],
     reference: &[u8],
 ) -> usize
-    requires { ⌜ (at ≤ used) × (used + 29 + length (now value) + length (now path) ≤ length (now s)) × (length (now value) < 256) × (length (now path) < 256) × (length (now reference) ≡ 20) ⌝ }
-    ensures { λ r. ⌜ r ≡ 29 + length (now (value .entry)) + length (now (path .entry)) ⌝ }
+    requires { ⌜ (at ≤ used) × (used + leafSize + length (now value) + length (now path) ≤ length (now s)) × (length (now value) < 256) × (length (now path) < 256) × (length (now reference) ≡ referenceSize) ⌝ }
+    ensures { λ r. ⌜ r ≡ leafSize + length (now (value .entry)) + length (now (path .entry)) ⌝ }
     ensures { λ _. ⌜ now (s .exit) ≡ splice (now (s .entry)) at (encode (alone (keyOf (now (value .entry)) (now (path .entry)) (now (reference .entry))) none) ++ region (now (s .entry)) at (used - at)) ⌝ }
 {
-    let n = 29 + value.len() + path.len();
+    let n = LEAF_SIZE + value.len() + path.len();
     move_within(s, at, at + n, used - at);
     put_leaf(s, at, value, path, reference);
     n
@@ -41,11 +45,11 @@ pub fn insert_suffix(
     path: &[u8],
     reference: &[u8],
 ) -> usize
-    requires { ⌜ (at ≤ used) × (used + 22 + length (now value) + length (now path) ≤ length (now s)) × (length (now value) < 256) × (length (now path) < 256) × (length (now reference) ≡ 20) ⌝ }
-    ensures { λ r. ⌜ r ≡ 22 + length (now (value .entry)) + length (now (path .entry)) ⌝ }
+    requires { ⌜ (at ≤ used) × (used + suffixSize + length (now value) + length (now path) ≤ length (now s)) × (length (now value) < 256) × (length (now path) < 256) × (length (now reference) ≡ referenceSize) ⌝ }
+    ensures { λ r. ⌜ r ≡ suffixSize + length (now (value .entry)) + length (now (path .entry)) ⌝ }
     ensures { λ _. ⌜ now (s .exit) ≡ splice (now (s .entry)) at (suffixBytes (keyOf (now (value .entry)) (now (path .entry)) (now (reference .entry))) ++ region (now (s .entry)) at (used - at)) ⌝ }
 {
-    let n = 22 + value.len() + path.len();
+    let n = SUFFIX_SIZE + value.len() + path.len();
     move_within(s, at, at + n, used - at);
     put_suffix(s, at, value, path, reference);
     n

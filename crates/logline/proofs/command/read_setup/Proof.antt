@@ -3,7 +3,8 @@ use borrow.Author.Needs.{needs}
 use native.Mathlib.Omega.{arith}
 use Prim.Native.Nat.{_+_}
 use mathlib.Core.Path.{sym, _∙_}
-use Rattle.logline.proofs.Reading.{misreads, there, lost, remains}
+use Rattle.buffer.proofs.Lists.{tail-part}
+use Rattle.logline.proofs.Reading.{misreads, there, lost}
 use Rattle.logline.proofs.command.read_setup.Statement.{statement}
 use Rattle.logline.proofs.command.read_setup.Tie as tie
 
@@ -33,7 +34,7 @@ returns-4 c =
     let q = sym (c .before .before .before .before .before .before .before .before .before .before .before .before .before .before .decimal .ensures) ∙ c .before .before .before .before .before .before .before .before .before .before .before .before .m .given .1 in
     let g = there (a .s .now) _ _ (c .before .before .before .before .before .before .before .before .before .before .field-end .ensures) (c .before .before .before .before .before .before .before .before .before .if1 .left) in
     let r = sym (c .before .before .before .before .before .before .before .decimal2 .ensures) ∙ c .before .before .before .before .before .l .given .1 in
-    let w = remains (a .s .now) (c .before .before .before .before .before .before .before .before .before .before .field-end .result + 1) in
+    let w = tail-part (c .before .before .before .before .before .before .before .before .before .before .field-end .result + 1) (a .s .now) in
     let t = sym (c .before .before .decimal3 .ensures) ∙ c .enum-told3 .given .1 in
     misreads _ _ (rw (q, g, r, ← w, t))
 
@@ -43,7 +44,7 @@ returns-5 c =
     let q = sym (c .before .before .before .before .before .before .before .before .before .before .before .before .before .before .before .decimal .ensures) ∙ c .before .before .before .before .before .before .before .before .before .before .before .before .before .m .given .1 in
     let g = there (a .s .now) _ _ (c .before .before .before .before .before .before .before .before .before .before .before .field-end .ensures) (c .before .before .before .before .before .before .before .before .before .before .if1 .left) in
     let r = sym (c .before .before .before .before .before .before .before .before .decimal2 .ensures) ∙ c .before .before .before .before .before .before .l .given .1 in
-    let w = remains (a .s .now) (c .before .before .before .before .before .before .before .before .before .before .before .field-end .result + 1) in
+    let w = tail-part (c .before .before .before .before .before .before .before .before .before .before .before .field-end .result + 1) (a .s .now) in
     let t = sym (c .before .before .before .decimal3 .ensures) ∙ c .before .tau .given .1 in
     record { means = rw (q, g, r, ← w, t); inside = tt }
 

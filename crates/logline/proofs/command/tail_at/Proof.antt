@@ -1,6 +1,7 @@
 -- The part is all that remains; past the end nothing does. Assumes nothing.
 use borrow.Author.Needs.{needs}
-use Rattle.logline.proofs.Reading.{tail-beyond, remains}
+use Rattle.buffer.proofs.Lists.{tail-part}
+use Rattle.logline.proofs.Reading.{tail-beyond}
 use Rattle.logline.proofs.command.tail_at.Statement.{statement}
 use Rattle.logline.proofs.command.tail_at.Tie as tie
 
@@ -15,4 +16,4 @@ tail-at-spec =
     (λ c. search needs)
     (λ c. search needs)
     (λ c. search needs)
-    (λ c. remains (c .before .before .args .s .now) (c .before .before .args .at)))
+    (λ c. tail-part (c .before .before .args .at) (c .before .before .args .s .now)))

@@ -5,7 +5,6 @@ use borrow.Author.Tests.{not-true, not-false}
 use borrow.Author.Needs.{needs}
 use Rattle.matcher.specs.Form.{isFine}
 use Rattle.matcher.specs.Matches.{matches}
-use Rattle.matcher.proofs.Forms.{pattern-begun, path-begun}
 use Rattle.matcher.proofs.fit.fits.Statement.{statement}
 use Rattle.matcher.proofs.fit.fits.Tie as tie
 
@@ -19,12 +18,6 @@ returns-2 c =
     let p = sym (c .before .before .before .before .is-fine .ensures ∙ ap isFine (c .before .before .before .before .before .check-pattern .ensures)) ∙ not-false _ (c .before .before .before .if1 .left) in
     let s = sym (c .before .is-fine2 .ensures ∙ ap isFine (c .before .before .check-path .ensures)) ∙ not-true _ (c .if2 .taken) in
     rw (p, s)
-
-fits-formed-requires : tie.Need-fits-formed-requires
-fits-formed-requires c κs =
-    let p = sym (c .before .before .before .before .is-fine .ensures ∙ ap isFine (c .before .before .before .before .before .check-pattern .ensures)) ∙ not-false _ (c .before .before .before .if1 .left) in
-    let s = sym (c .before .is-fine2 .ensures ∙ ap isFine (c .before .before .check-path .ensures)) ∙ not-false _ (c .if2 .left) in
-    (pattern-begun (c .before .before .before .before .before .before .before .before .args .pattern .now) p, path-begun (c .before .before .before .before .before .before .before .before .args .path .now) s)
 
 returns-3 : tie.Need-returns-3
 unfolding matches
@@ -43,5 +36,5 @@ fits-spec =
     (λ c κs. search needs)
     (λ c κs. search needs)
     returns-2
-    fits-formed-requires
+    (λ c κs. search needs)
     returns-3)

@@ -8,8 +8,8 @@ use Rattle.matcher.specs.declared.reach.Answer.the-variants.{Mismatch}
 use Rattle.matcher.proofs.reach.reach.Statement.{statement}
 use Rattle.matcher.proofs.reach.reach.Tie as tie
 
-reach-formed-requires : tie.Need-reach-formed-requires
-reach-formed-requires c κs = sym (c .before .is-fine .ensures ∙ ap isFine (c .before .before .check-pattern .ensures)) ∙ c .if1 .taken
+returns : tie.Need-returns
+returns c = c .reach-formed .ensures .1 (sym (c .before .before .is-fine .ensures ∙ ap isFine (c .before .before .before .check-pattern .ensures)) ∙ c .before .if1 .taken)
 
 returns-2 : tie.Need-returns-2
 returns-2 c =
@@ -20,4 +20,4 @@ returns-2 c =
 pub reach-spec : {M : Type 1} → statement M
 reach-spec =
     tie.close
-    (tie.spec (λ c κs. search needs) (λ c κs. search needs) reach-formed-requires (λ c. search needs) returns-2)
+    (tie.spec (λ c κs. search needs) (λ c κs. search needs) (λ c κs. search needs) returns returns-2)

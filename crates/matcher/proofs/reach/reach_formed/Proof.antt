@@ -6,8 +6,7 @@ use native.Mathlib.Omega.{arith}
 use lib.ListN.{length, take}
 use borrow.Author.Needs.{needs}
 use Rattle.matcher.specs.Reach.{reachWhole}
-use Rattle.matcher.proofs.Forms.{pattern-begun}
-use Rattle.matcher.proofs.Decided.{reached, reach-none, reach-end, reach-more}
+use Rattle.matcher.proofs.Decided.{reached-formed, reach-none, reach-end, reach-more}
 use Rattle.matcher.proofs.reach.reach_formed.Statement.{statement}
 use Rattle.matcher.proofs.reach.reach_formed.Tie as tie
 
@@ -15,38 +14,32 @@ use Rattle.matcher.proofs.reach.reach_formed.Tie as tie
 from-start : (n : ℕ) → n - 0 ≡ n
 from-start n = omega arith
 
-reach-open-requires : tie.Need-reach-open-requires
-reach-open-requires c κs = pattern-begun (c .before .before .before .args .pattern .now) (c .before .before .before .pre)
-
 returns : tie.Need-returns
 returns c =
     let p = c .before .before .before .before .args .pattern .now in
     let k = c .before .before .before .before .args .known .now in
-    reached p k (c .reach-open .result) (c .reach-open .ensures ∙ sym (reach-none p k (c .before .before .before .before .pre) (c .before .if1 .taken)))
-
-reach-whole-requires : tie.Need-reach-whole-requires
-reach-whole-requires c κs = pattern-begun (c .before .before .before .before .before .before .args .pattern .now) (c .before .before .before .before .before .before .pre)
+    let r = c .reach-open .ensures ∙ sym (reach-none p k (c .before .if1 .taken)) in
+    (r, reached-formed p k (c .reach-open .result) r)
 
 returns-2 : tie.Need-returns-2
 returns-2 c =
     let p = c .before .before .before .before .before .before .before .args .pattern .now in
     let k = c .before .before .before .before .before .before .before .args .known .now in
-    reached p k (c .reach-whole .result) (c .reach-whole .ensures ∙ ap (λ (n : ℕ). reachWhole p (take n k)) (from-start (length k - 1)) ∙ sym (reach-end p k (c .before .before .before .before .before .before .before .pre) (c .before .before .before .before .if1 .left) (c .before .before .if2 .taken)))
-
-reach-open-requires-2 : tie.Need-reach-open-requires-2
-reach-open-requires-2 c κs = pattern-begun (c .before .before .before .before .before .args .pattern .now) (c .before .before .before .before .before .pre)
+    let r = c .reach-whole .ensures ∙ ap (λ (n : ℕ). reachWhole p (take n k)) (from-start (length k - 1)) ∙ sym (reach-end p k (c .before .before .before .before .if1 .left) (c .before .before .if2 .taken)) in
+    (r, reached-formed p k (c .reach-whole .result) r)
 
 returns-3 : tie.Need-returns-3
 returns-3 c =
     let p = c .before .before .before .before .before .before .args .pattern .now in
     let k = c .before .before .before .before .before .before .args .known .now in
-    reached p k (c .reach-open2 .result) (c .reach-open2 .ensures ∙ sym (reach-more p k (c .before .before .before .before .before .before .pre) (c .before .before .before .if1 .left) (c .before .if2 .left)))
+    let r = c .reach-open2 .ensures ∙ sym (reach-more p k (c .before .before .before .if1 .left) (c .before .if2 .left)) in
+    (r, reached-formed p k (c .reach-open2 .result) r)
 
 pub reach-formed-spec : {M : Type 1} → statement M
 reach-formed-spec =
     tie.close
     (tie.spec
-    reach-open-requires
+    (λ c κs. search needs)
     returns
     (λ c. search needs)
     (λ c. search needs)
@@ -54,7 +47,7 @@ reach-formed-spec =
     (λ c. search needs)
     (λ c. search needs)
     (λ c. search needs)
-    reach-whole-requires
+    (λ c κs. search needs)
     returns-2
-    reach-open-requires-2
+    (λ c κs. search needs)
     returns-3)

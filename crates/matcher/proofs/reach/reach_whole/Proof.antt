@@ -3,16 +3,11 @@
 use mathlib.Core.Path.{sym, _∙_}
 use borrow.Author.Tests.{not-true, not-false}
 use borrow.Author.Needs.{needs}
-use Rattle.matcher.specs.Form.{pathLabel}
-use Rattle.matcher.proofs.Forms.{labelled-begun}
 use Rattle.matcher.proofs.reach.reach_whole.Statement.{statement}
 use Rattle.matcher.proofs.reach.reach_whole.Tie as tie
 
 returns : tie.Need-returns
 returns c = rw (sym (c .before .is-path .ensures) ∙ not-true _ (c .if1 .taken))
-
-fits-formed-requires : tie.Need-fits-formed-requires
-fits-formed-requires c κs = (c .before .before .before .before .pre, labelled-begun pathLabel (c .before .before .before .before .args .path .now) (sym (c .before .is-path .ensures) ∙ not-false _ (c .if1 .left)))
 
 returns-2 : tie.Need-returns-2
 returns-2 c = rw (sym (c .before .before .before .is-path .ensures) ∙ not-false _ (c .before .before .if1 .left), sym (c .before .fits-formed .ensures) ∙ c .if2 .taken)
@@ -22,4 +17,4 @@ returns-3 c = rw (sym (c .before .before .before .is-path .ensures) ∙ not-fals
 
 pub reach-whole-spec : {M : Type 1} → statement M
 reach-whole-spec =
-    tie.close (tie.spec (λ c κs. search needs) returns fits-formed-requires returns-2 returns-3)
+    tie.close (tie.spec (λ c κs. search needs) returns (λ c κs. search needs) returns-2 returns-3)

@@ -1,0 +1,17 @@
+-- The sizes of what an entry has, which every layer shares, and the block of a move. Assumes nothing: these are definitions.
+use Prim.Native.Nat.{ℕ}
+
+-- bytes of a value, and of a reference
+abbrev pub valueSize : ℕ
+valueSize = 8
+
+abbrev pub referenceSize : ℕ
+referenceSize = 20
+
+-- the most bytes of a path, and of a pattern
+abbrev pub pathLimit : ℕ
+pathLimit = 200
+
+-- bytes that a move towards the end takes in one step
+abbrev pub moveBlock : ℕ
+moveBlock = 512
