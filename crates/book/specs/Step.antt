@@ -1,0 +1,54 @@
+-- The book's answer to a call, and the book afterwards. Assumes nothing: these are definitions.
+use Prim.Native.Nat.{ℕ, zero, suc, _+_, _*_}
+use mathlib.Core.Bool.{cond}
+use mathlib.Core.List.{List, [], _∷_, map}
+use lib.ListN.{length}
+use lib.Dec.{ltb}
+use Rattle.buffer.specs.Lists.{flat}
+use Rattle.buffer.specs.Splice.{splice}
+use Rattle.rows.specs.Sizes.{rowSize, recordSize}
+use Rattle.rows.specs.Entry.{row}
+use Rattle.book.specs.Book.{Book, held, front, fresh, put, has}
+use Rattle.book.specs.Searching.{matching, nodes}
+use Rattle.book.specs.Records.{records}
+use Rattle.book.specs.Replies.{Reply, reply, Result, result, setupNumber, addNumber, searchNumber, readNumber}
+use Rattle.book.specs.Calls.{Call, setup, add, search, readLevel}
+
+-- what comes back from a call, and the book after it
+pub record Outcome : Type 0 where
+  pub result : Result
+  pub book : Book
+
+abbrev pub outcome : Reply → List ℕ → Book → Outcome
+outcome r answer b = record { result = result r answer; book = b }
+
+-- the number 0 lets the call be accepted, with the outcome o; any other refuses it with two zeros, and changes nothing
+abbrev pub unless : ℕ → List ℕ → Book → Outcome → Outcome
+unless zero answer b o = o
+unless (suc n) answer b o = outcome (reply (suc n) 0 0) answer b
+
+-- rows of one width go into the answer buffer, what comes after the last one stays; where they are too long for it, 11 gives their count
+unfoldable pub list : ℕ → List (List ℕ) → ℕ → List ℕ → Book → Outcome
+list width rows second answer b =
+    cond (ltb (length answer) (length rows * width)) (outcome (reply 11 (length rows) 0) answer b)
+    (outcome (reply 0 (length rows) second) (splice answer 0 (flat rows)) b)
+
+unfoldable pub step : Book → Call → Outcome
+step b (setup n m l t) = unless (setupNumber n m l t) [] b (outcome (reply 0 0 0) [] (fresh m l t))
+step b (add n e) =
+    unless (addNumber n (front b) e) [] b
+    (cond (has (b .entries) e) (outcome (reply 100 (held b) 0) [] b) (outcome (reply 0 (held b + 1) 0) [] (put e b)))
+step b (search n q answer) =
+    unless (searchNumber n (front b) q) answer b (list rowSize (map row (matching q (b .entries))) (nodes q b) answer b)
+step b (readLevel n i answer) =
+    unless (readNumber n (front b)) answer b (list recordSize (records i b) 0 answer b)
+
+-- the results that the book gives for a list of calls
+unfoldable pub answers : Book → List Call → List Result
+answers b [] = []
+answers b (c ∷ cs) = step b c .result ∷ answers (step b c .book) cs
+
+-- the book after a list of calls
+unfoldable pub after : Book → List Call → Book
+after b [] = b
+after b (c ∷ cs) = after (step b c .book) cs
