@@ -9,3 +9,5 @@ pub mod Replies
 pub mod Calls
 pub mod Step
 pub mod Image
+pub mod Computing
+pub mod Worked
