@@ -8,6 +8,17 @@ pub mod Records
 pub mod Replies
 pub mod Calls
 pub mod Step
+-- The store, the promises of the four calls, and lists of calls
 pub mod Image
+pub mod Promises
+pub mod Ran
+-- What is proved
+pub mod Demand3
+pub mod Accepted
+pub mod InWords
+pub mod Branch
+pub mod Overflow
+-- Worked by computation
 pub mod Computing
 pub mod Worked
+pub mod Fields
