@@ -1,0 +1,5 @@
+pub mod Front
+pub mod Digits
+pub mod Overflow
+pub mod Numbers
+pub mod Book
