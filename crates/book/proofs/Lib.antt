@@ -3,3 +3,5 @@ pub mod Digits
 pub mod Overflow
 pub mod Numbers
 pub mod Book
+pub mod Keys
+pub mod Image

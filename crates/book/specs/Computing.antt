@@ -22,7 +22,7 @@ use Rattle.book.specs.Searching.{matching, nodesOf, nodes}
 use Rattle.book.specs.Records.{stepBytes, walkBytes, recordOf, levelRead, records}
 use Rattle.book.specs.Replies.{setupNumber, addNumber, searchNumber, readNumber}
 use Rattle.book.specs.Step.{list, step, answers}
-use Rattle.book.specs.Image.{filled, regions, storeOf, image}
+use Rattle.book.specs.Image.{padded, regions, storeOf, image}
 
 -- rows, patterns and queries
 unfoldable pub of-entries : ℕ
@@ -36,5 +36,5 @@ of-a-book = 0
 
 -- the bytes of its store
 unfoldable pub of-an-image : ℕ
-unfolding of-a-book suffixBytes nodeBytes encode frontBytes filled regions storeOf image
+unfolding of-a-book suffixBytes nodeBytes encode frontBytes padded regions storeOf image
 of-an-image = 0

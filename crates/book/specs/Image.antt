@@ -16,17 +16,17 @@ use Rattle.book.specs.Book.{Book, Sound, front}
 use Rattle.book.specs.Tries.{Tries, tries}
 
 -- bytes with zeros behind them, n in all
-unfoldable pub filled : ℕ → List ℕ → List ℕ
-filled n bs = bs ++ replicate (n - length bs) 0
+unfoldable pub padded : ℕ → List ℕ → List ℕ
+padded n bs = bs ++ replicate (n - length bs) 0
 
 -- the small trie and the levels below l
 unfoldable pub regions : ℕ → ℕ → Tries → List ℕ
-regions m zero t = filled (entryRoom * m) (encode (t .small))
-regions m (suc l) t = regions m l t ++ filled (entryRoom * m * 2 ^ l) (encode (t .level l))
+regions m zero t = padded (entryRoom * m) (encode (t .small))
+regions m (suc l) t = regions m l t ++ padded (entryRoom * m * 2 ^ l) (encode (t .level l))
 
 -- a store with these numbers and these tries
 unfoldable pub storeOf : Front → Tries → List ℕ
-storeOf f t = filled frontRoom (frontBytes f) ++ regions (f .M) (f .L) t
+storeOf f t = padded frontRoom (frontBytes f) ++ regions (f .M) (f .L) t
 
 -- the store of a book
 unfoldable pub image : Book → List ℕ
