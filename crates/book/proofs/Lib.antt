@@ -5,3 +5,5 @@ pub mod Numbers
 pub mod Book
 pub mod Keys
 pub mod Image
+pub mod OneCall
+pub mod Demand3
