@@ -7,3 +7,5 @@ pub mod Keys
 pub mod Image
 pub mod OneCall
 pub mod Demand3
+pub mod Listed
+pub mod InWords
