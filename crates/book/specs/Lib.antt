@@ -16,7 +16,6 @@ pub mod Ran
 pub mod Demand3
 pub mod Accepted
 pub mod InWords
-pub mod Branch
 pub mod Overflow
 -- Worked by computation
 pub mod Computing
