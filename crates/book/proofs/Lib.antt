@@ -9,3 +9,4 @@ pub mod OneCall
 pub mod Demand3
 pub mod Listed
 pub mod InWords
+pub mod OverTries
