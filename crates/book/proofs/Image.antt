@@ -33,7 +33,7 @@ use Rattle.book.proofs.Keys.{keys-entries}
 
 -- ---- the entries of a trie
 
-all-drop : {A : Type 0} (f : A → Bool) (n : ℕ) (xs : List A) → all f xs ≡ true → all f (drop n xs) ≡ true
+pub all-drop : {A : Type 0} (f : A → Bool) (n : ℕ) (xs : List A) → all f xs ≡ true → all f (drop n xs) ≡ true
 all-drop f n xs a =
     all-test f (all-right (take n xs) (drop n xs) (all-tested f (take n xs ++ drop n xs) (ap (all f) (lib.ListN.take-append-drop n xs) ∙ a)))
 

@@ -10,3 +10,5 @@ pub mod Demand3
 pub mod Listed
 pub mod InWords
 pub mod OverTries
+pub mod Additions
+pub mod Records

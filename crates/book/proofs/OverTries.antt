@@ -40,15 +40,15 @@ use Rattle.book.proofs.Listed.{count-append}
 
 -- ---- counts
 
-count-map : {A B : Type 0} (p : B → Bool) (f : A → B) (xs : List A) → count p (map f xs) ≡ count (λ x. p (f x)) xs
+pub count-map : {A B : Type 0} (p : B → Bool) (f : A → B) (xs : List A) → count p (map f xs) ≡ count (λ x. p (f x)) xs
 count-map p f xs = count-sum p (map f xs) ∙ sum-map (λ y. cond (p y) 1 0) f xs ∙ sym (count-sum (λ x. p (f x)) xs)
 
-count-agree : {A : Type 0} (p p′ : A → Bool) {xs : List A} → All (λ x. p x ≡ p′ x) xs → count p xs ≡ count p′ xs
+pub count-agree : {A : Type 0} (p p′ : A → Bool) {xs : List A} → All (λ x. p x ≡ p′ x) xs → count p xs ≡ count p′ xs
 unfolding count
 count-agree p p′ nil = refl
 count-agree p p′ (cons {x = x} {xs = xs} h a) = λ i. cond (h i) (suc (count-agree p p′ a i)) (count-agree p p′ a i)
 
-count-picked : {A : Type 0} (p t : A → Bool) (xs : List A) → count p (pick t xs) ≡ count (λ x. t x && p x) xs
+pub count-picked : {A : Type 0} (p t : A → Bool) (xs : List A) → count p (pick t xs) ≡ count (λ x. t x && p x) xs
 unfolding count pick
 count-picked p t [] = refl
 count-picked p t (x ∷ xs) = go (t x) (p x) refl (count-picked p t xs)
@@ -59,13 +59,13 @@ count-picked p t (x ∷ xs) = go (t x) (p x) refl (count-picked p t xs)
     go true false h ih = rw h ih
     go false b h ih = ih
 
-count-flat : {A B : Type 0} (p : B → Bool) (g : A → List B) (xs : List A) → count p (flat (map g xs)) ≡ sum (λ x. count p (g x)) xs
+pub count-flat : {A B : Type 0} (p : B → Bool) (g : A → List B) (xs : List A) → count p (flat (map g xs)) ≡ sum (λ x. count p (g x)) xs
 unfolding flat sum count
 count-flat p g [] = refl
 count-flat p g (x ∷ xs) = count-append p (g x) (flat (map g xs)) ∙ ap (λ (n : ℕ). count p (g x) + n) (count-flat p g xs)
 
 -- what none fails, all pass
-count-none : {A : Type 0} (t : A → Bool) (xs : List A) → count (λ x. not (t x)) xs ≡ 0 → All (λ x. t x ≡ true) xs
+pub count-none : {A : Type 0} (t : A → Bool) (xs : List A) → count (λ x. not (t x)) xs ≡ 0 → All (λ x. t x ≡ true) xs
 unfolding count
 count-none t [] e = nil
 count-none {A} t (x ∷ xs) e = go (t x) refl e (count-none t xs)
@@ -75,7 +75,7 @@ count-none {A} t (x ∷ xs) e = go (t x) refl e (count-none t xs)
     go true h e ih = cons h (ih e)
     go false h e ih = absurd (omega arith)
 
-none-count : {A : Type 0} (t : A → Bool) {xs : List A} → All (λ x. t x ≡ true) xs → count (λ x. not (t x)) xs ≡ 0
+pub none-count : {A : Type 0} (t : A → Bool) {xs : List A} → All (λ x. t x ≡ true) xs → count (λ x. not (t x)) xs ≡ 0
 unfolding count
 none-count t nil = refl
 none-count t (cons {x = x} {xs = xs} h a) = rw h (none-count t a)

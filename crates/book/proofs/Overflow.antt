@@ -22,7 +22,7 @@ quotient-rises : (n m : ℕ) → 0 < m → n % m + 1 ≡ m → (n + 1) / m ≡ n
 quotient-rises n m p h = ap (λ (x : ℕ). x / m) (omega (arith, div-add-mod' n m, add-mul (n / m) 1 m, one-mul m)) ∙ digits-div (n / m + 1) p
 
 -- all digits below j are 1
-ones : (j n : ℕ) → ((i : ℕ) → i < j → digit i n ≡ 1) → n % 2 ^ j + 1 ≡ 2 ^ j
+pub ones : (j n : ℕ) → ((i : ℕ) → i < j → digit i n ≡ 1) → n % 2 ^ j + 1 ≡ 2 ^ j
 unfolding digit
 ones zero n h = rw (mod-one n)
 ones (suc j) n h =
@@ -97,7 +97,7 @@ stays m es e h =
     }
 
 -- held + 1 is M × (rounds + 1)
-round-full : (m : ℕ) (es : List Entry) → length (small m es) + 1 ≡ m → length es + 1 ≡ m * (rounds m es + 1)
+pub round-full : (m : ℕ) (es : List Entry) → length (small m es) + 1 ≡ m → length es + 1 ≡ m * (rounds m es + 1)
 unfolding rounds
 round-full m es h =
     omega
