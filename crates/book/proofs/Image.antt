@@ -94,7 +94,7 @@ length-regions m (suc l) t f =
     let q : entryRoom * m * 2 ^ suc l ≡ x * 2 = ap (λ (k : ℕ). entryRoom * m * k) (pow-suc 2 l) ∙ sym (mul-assoc (entryRoom * m) (2 ^ l) 2) in
     omega (arith, length-regions m l t (record { small = f .small; levels = λ i h. f .levels i (omega arith) }), length-append (regions m l t) (padded x (encode (t .level l))), p, q)
 
-length-top : (f : Front) → length (padded frontRoom (frontBytes f)) ≡ frontRoom
+pub length-top : (f : Front) → length (padded frontRoom (frontBytes f)) ≡ frontRoom
 length-top f = length-padded frontRoom (frontBytes f) (let z = length-front f in omega arith)
 
 pub length-store : (f : Front) (t : Tries) → Fit (f .M) (f .L) t → length (storeOf f t) ≡ need (f .M) (f .L)

@@ -12,3 +12,4 @@ pub mod InWords
 pub mod OverTries
 pub mod Additions
 pub mod Records
+pub mod Regions
