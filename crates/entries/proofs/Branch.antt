@@ -164,7 +164,7 @@ branch-decided q known bytes = (
 
 -- ---- bytes that begin others
 
-prefix-rest : (k s : List ℕ) → Prefix k s → k ++ drop (length k) s ≡ s
+pub prefix-rest : (k s : List ℕ) → Prefix k s → k ++ drop (length k) s ≡ s
 unfolding Prefix
 prefix-rest [] s h = refl
 prefix-rest (a ∷ k) [] h = absurd h

@@ -1,3 +1,4 @@
 pub mod Slots
 pub mod Branch
 pub mod Found
+pub mod Entered
