@@ -35,6 +35,7 @@ use Rattle.book.proofs.Numbers.{search-none, read-none, only-full, add-
 use Rattle.book.proofs.Book.{search-book, read-book}
 use Rattle.book.proofs.Listed.{length-pick, has-sorted, has-pick, distinct-sorted, distinct-pick, distinct-part}
 use Rattle.book.proofs.OneCall.{one-call}
+use Rattle.book.proofs.OverTries.{nodes-branches}
 use Rattle.book.proofs.Demand3.{demand-3}
 
 -- ---- the book after a call is told from the number that came back
@@ -146,7 +147,10 @@ module _ {memory : List ℕ} {b : Book} (h : HoldsBook memory b) where
       record {
         found = matching q (b .entries);
         precisely = matching-precise q (b .entries) (h .sound .once);
-        says = one-call (search n q answer) h d .result ∙ search-told b n q answer (search-none n (front b) q (long-enough n b (h .sound) enough) fine range) space;
+        says =
+            one-call (search n q answer) h d .result
+            ∙ search-told b n q answer (search-none n (front b) q (long-enough n b (h .sound) enough) fine range) space
+            ∙ ap (λ (k : ℕ). result (reply 0 (length (matching q (b .entries))) k) (splice answer 0 (flat (map row (matching q (b .entries)))))) (nodes-branches b (h .sound) q);
       }
 
   reads-level : {n i : ℕ} {answer : List ℕ} {r : Result} {end : List ℕ} → Did memory (readLevel n i answer) r end

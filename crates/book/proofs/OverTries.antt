@@ -21,9 +21,10 @@ use Rattle.trie_theory.specs.Forest.{Key, Forest, keys}
 use Rattle.trie_theory.specs.Strings.{at}
 use Rattle.trie_theory.specs.Dimensions.{root}
 use Rattle.trie_theory.specs.Lookup.{sameKey, among, member}
-use Rattle.trie_theory.specs.Search.{found}
+use Rattle.trie_theory.specs.Search.{found, nodesEntered, admitted}
 use Rattle.trie_theory.specs.TrieOf.{TrieOf}
 use Rattle.trie_theory.specs.Entries as Dimensions
+use Rattle.trie_theory.specs.Sound as Trie
 use Rattle.entries.specs.Keys.{entryKey}
 use Rattle.entries.specs.Query.{Query, matchesEntry, reaches, wants}
 use Rattle.entries.proofs.Branch.{wants-entry}
@@ -31,7 +32,9 @@ use Rattle.entries.proofs.Found.{Valued, found-keys}
 use Rattle.book.specs.Digits.{level, small}
 use Rattle.book.specs.Book.{Book, Sound, has, formed}
 use Rattle.book.specs.Tries.{Tries, every, tries}
-use Rattle.book.specs.Searching.{matching}
+use Rattle.book.specs.Searching.{matching, nodesOf, nodes}
+use Rattle.book.specs.InWords.{branches}
+use Rattle.entries.proofs.Entered.{entered-exactly}
 use Rattle.book.specs.Overflow.{fromHighest}
 use Rattle.book.proofs.Digits.{levels-whole}
 use Rattle.book.proofs.Keys.{as-formed, entry-key, keys-entries, fits-rows, keyEntry, key-entry}
@@ -107,6 +110,7 @@ pub record TrieFor (es : List Entry) (t : Forest) : Type 0 where
   pub kept : (p : Key → Bool) → count p (keys [] t) ≡ count (λ e. p (entryKey e)) es
   pub lookup : (e : Entry) → member root t (entryKey e) ≡ has es e
   pub valued : All Valued (keys [] t)
+  pub sound : Trie.Sound 2 root t
 
 trie-for : (es xs : List Entry) (t : Forest) → all formed xs ≡ true → ((p : Entry → Bool) → count p xs ≡ count p es) → ((e : Entry) → has xs e ≡ has es e)
     → TrieOf 2 209 (map entryKey xs) t → TrieFor es t
@@ -114,6 +118,7 @@ trie-for es xs t f counts members r =
     record {
       kept = λ p. r .kept p ∙ count-map p entryKey xs ∙ counts (λ e. p (entryKey e));
       lookup = λ e. r .lookup (entryKey e) ∙ among-keys e xs ∙ members e;
+      sound = r .sound;
       valued = count-none valued? (keys [] t) (r .kept (λ x. not (valued? x)) ∙ none-count valued? (all-imp entry-valued (keys-entries xs f)));
     }
   where
@@ -233,3 +238,14 @@ module _ (b : Book) (s : Sound b) where
 
   pub looked-up : (e : Entry) → any (λ t. member root t (entryKey e)) (every (b .L) (tries b)) ≡ has (b .entries) e
   looked-up e = looked-below e (b .L) ∙ ap (λ (es : List Entry). has es e) whole
+
+  -- THE NODES ENTERED are those that the rule of entering admits
+  entered-all : (q : Query) (l : ℕ) → All (λ t. nodesEntered (reaches q) root [] t ≡ admitted (reaches q) root [] t) (every l (tries b))
+  unfolding every
+  entered-all q zero = cons (let r = small-for b s in entered-exactly q 2 root [] (tries b .small) (r .sound) (r .valued)) nil
+  entered-all q (suc l) =
+      Rattle.buffer.proofs.Lists.all-append (entered-all q l) (cons (let r = level-for b s l in entered-exactly q 2 root [] (tries b .level l) (r .sound) (r .valued)) nil)
+
+  pub nodes-branches : (q : Query) → nodes q b ≡ branches q b
+  unfolding nodes nodesOf branches
+  nodes-branches q = sum-equal (nodesEntered (reaches q) root []) (admitted (reaches q) root []) (entered-all q (b .L))

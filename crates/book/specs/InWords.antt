@@ -3,21 +3,22 @@
 use Prim.Native.Nat.{ℕ, _-_, _*_, _^_, _≤_, _<_}
 use mathlib.Core.Path.{_≡_}
 use mathlib.Core.Bool.{Bool, true, false, _&&_}
-use mathlib.Core.List.{List, map}
+use mathlib.Core.List.{List, [], map}
 use lib.ListN.{length}
-use Rattle.buffer.specs.Lists.{flat, count}
+use Rattle.buffer.specs.Lists.{flat, count, sum}
 use Rattle.buffer.specs.Splice.{splice}
 use Rattle.matcher.specs.Form.{patternForm, isFine}
 use Rattle.rows.specs.Sizes.{rowSize, recordSize}
 use Rattle.rows.specs.Entry.{Entry, row}
 use Rattle.rows.specs.Order.{entryOrder}
 use Rattle.rows.specs.Sorted.{ascending}
-use Rattle.entries.specs.Query.{Query, matchesEntry}
+use Rattle.trie_theory.specs.Dimensions.{root}
+use Rattle.trie_theory.specs.Search.{admitted}
+use Rattle.entries.specs.Query.{Query, matchesEntry, reaches}
 use Rattle.book.specs.Front.{need}
 use Rattle.book.specs.Digits.{level}
 use Rattle.book.specs.Book.{Book, has, distinct}
-use Rattle.book.specs.Tries.{levelTrie}
-use Rattle.book.specs.Searching.{nodes}
+use Rattle.book.specs.Tries.{every, levelTrie, tries}
 use Rattle.book.specs.Records.{recordOf}
 use Rattle.book.specs.Replies.{reply, Result, result}
 use Rattle.book.specs.Calls.{Call, add, search, readLevel}
@@ -30,11 +31,16 @@ pub record Precisely (test : Entry → Bool) (es found : List Entry) : Type 0 wh
   pub once : distinct found ≡ true
   pub in-sequence : ascending entryOrder found ≡ true
 
--- a search lists these rows, their number and the number of nodes entered; what comes after the last row is unchanged
+-- The nodes that a search has to enter: the root of each non-empty trie, and each child, walked to or not, where some path, of any length, and
+-- some value could match that begin with the bytes known at its parent and the branching byte (`Branch-Decided` of entries)
+unfoldable pub branches : Query → Book → ℕ
+branches q b = sum (admitted (reaches q) root []) (every (b .L) (tries b))
+
+-- a search lists these rows, their number and the number of nodes so entered; what comes after the last row is unchanged
 pub record Lists (q : Query) (answer : List ℕ) (b : Book) (r : Result) : Type 0 where
   pub found : List Entry
   pub precisely : Precisely (matchesEntry q) (b .entries) found
-  pub says : r ≡ result (reply 0 (length found) (nodes q b)) (splice answer 0 (flat (map row found)))
+  pub says : r ≡ result (reply 0 (length found) (branches q b)) (splice answer 0 (flat (map row found)))
 
 -- reading a level back gives the record of each of its entries, none lost or added
 pub record Reads (i : ℕ) (answer : List ℕ) (b : Book) (r : Result) : Type 0 where
