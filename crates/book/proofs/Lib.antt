@@ -13,3 +13,4 @@ pub mod OverTries
 pub mod Additions
 pub mod Records
 pub mod Regions
+pub mod Writes

@@ -23,7 +23,7 @@ use Rattle.book.proofs.Image.{Fit, length-padded, length-regions, lengt
 region-mid : (a p c : List ℕ) (o n : ℕ) → length a ≡ o → length p ≡ n → region (a ++ (p ++ c)) o n ≡ p
 region-mid a p c o n h k = rw (drop-at a (p ++ c) o h) (take-at p c n k)
 
-splice-mid : (a p p′ c : List ℕ) (o : ℕ) → length a ≡ o → length p′ ≡ length p → splice (a ++ (p ++ c)) o p′ ≡ a ++ (p′ ++ c)
+pub splice-mid : (a p p′ c : List ℕ) (o : ℕ) → length a ≡ o → length p′ ≡ length p → splice (a ++ (p ++ c)) o p′ ≡ a ++ (p′ ++ c)
 splice-mid a p p′ c o h k =
     let e : drop (o + length p′) (a ++ (p ++ c)) ≡ c =
     ap (drop (o + length p′)) (sym (append-assoc a p c)) ∙ drop-at (a ++ p) c (o + length p′) (length-append a p ∙ omega arith) in
@@ -60,7 +60,7 @@ unfoldable pub above : ℕ → ℕ → ℕ → Tries → List ℕ
 above m i zero t = []
 above m i (suc n) t = above m i n t ++ padded (entryRoom * m * 2 ^ (i + n)) (encode (t .level (i + n)))
 
-regions-above : (m i n : ℕ) (t : Tries) → regions m (i + n) t ≡ regions m i t ++ above m i n t
+pub regions-above : (m i n : ℕ) (t : Tries) → regions m (i + n) t ≡ regions m i t ++ above m i n t
 unfolding above regions
 regions-above m i zero t = rw (add-zero i) (sym (append-nil (regions m i t)))
 regions-above m i (suc n) t =
@@ -73,7 +73,7 @@ unfolding regions
 regions-same m zero t t′ s h = rw s
 regions-same m (suc l) t t′ s h = ap₂ _++_ (regions-same m l t t′ s (λ i k. h i (omega arith))) (ap (λ f. padded (entryRoom * m * 2 ^ l) (encode f)) (h l (omega arith)))
 
-above-same : (m i n : ℕ) (t t′ : Tries) → ((k : ℕ) → i ≤ k → k < i + n → t′ .level k ≡ t .level k) → above m i n t′ ≡ above m i n t
+pub above-same : (m i n : ℕ) (t t′ : Tries) → ((k : ℕ) → i ≤ k → k < i + n → t′ .level k ≡ t .level k) → above m i n t′ ≡ above m i n t
 unfolding above
 above-same m i zero t t′ h = refl
 above-same m i (suc n) t t′ h = ap₂ _++_ (above-same m i n t t′ (λ k a b. h k a (omega arith))) (ap (λ f. padded (entryRoom * m * 2 ^ (i + n)) (encode f)) (h (i + n) (omega arith) (omega arith)))
