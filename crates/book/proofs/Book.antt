@@ -25,7 +25,7 @@ use Rattle.book.specs.Replies.{reply, result, setupNumber, addNumber, se
 use Rattle.book.specs.Calls.{Call, setup, add, search, readLevel, typed}
 use Rattle.book.specs.Searching.{matching, nodes}
 use Rattle.book.specs.Records.{records}
-use Rattle.book.specs.Step.{Outcome, outcome, unless, step, list}
+use Rattle.book.specs.Step.{Outcome, outcome, unless, admit, fill, list, step}
 use Rattle.book.proofs.Front.{within}
 use Rattle.book.proofs.Numbers.{Acceptable, acceptable, setup-fits}
 
@@ -54,27 +54,22 @@ distinct-snoc (y ∷ es) e d h =
     rw m (distinct-snoc es e (and-right (not (has es y)) (distinct es) d) q)
 
 -- a listing leaves the book as it is
-list-book : (width : ℕ) (rows : List (List ℕ)) (second : ℕ) (answer : List ℕ) (b : Book) → list width rows second answer b .book ≡ b
-unfolding list
-list-book width rows second answer b = go (ltb (length answer) (length rows * width))
-  where
-    go :
-        (w : Bool) →
-        (cond w (outcome (reply 11 (length rows) 0) answer b) (outcome (reply 0 (length rows) second) (splice answer 0 (flat rows)) b)) .book ≡ b
-    go true = refl
-    go false = refl
+fill-book : (w : Bool) (rows : List (List ℕ)) (second : ℕ) (answer : List ℕ) (b : Book) → fill w rows second answer b .book ≡ b
+unfolding fill
+fill-book true rows second answer b = refl
+fill-book false rows second answer b = refl
 
 unless-book : (n : ℕ) (answer : List ℕ) (b : Book) (o : Outcome) → o .book ≡ b → unless n answer b o .book ≡ b
 unless-book zero answer b o e = e
 unless-book (suc n) answer b o e = refl
 
 pub search-book : (b : Book) (n : ℕ) (q : Query) (answer : List ℕ) → step b (search n q answer) .book ≡ b
-unfolding step
-search-book b n q answer = unless-book (searchNumber n (front b) q) answer b _ (list-book rowSize (map row (matching q (b .entries))) (nodes q b) answer b)
+unfolding step list
+search-book b n q answer = unless-book (searchNumber n (front b) q) answer b _ (fill-book _ _ _ answer b)
 
 pub read-book : (b : Book) (n i : ℕ) (answer : List ℕ) → step b (readLevel n i answer) .book ≡ b
-unfolding step
-read-book b n i answer = unless-book (readNumber n (front b)) answer b _ (list-book recordSize (records i b) 0 answer b)
+unfolding step list
+read-book b n i answer = unless-book (readNumber n (front b)) answer b _ (fill-book _ _ _ answer b)
 
 -- an empty book is sound within the limits
 pub fresh-sound : (m l t : ℕ) → inLimits m l t ≡ true → Sound (fresh m l t)
@@ -106,7 +101,7 @@ unfolding step
 add-sound b n e s t = go (addNumber n (front b) e) refl (has (b .entries) e) refl
   where
     go : (k : ℕ) → addNumber n (front b) e ≡ k → (w : Bool) → has (b .entries) e ≡ w
-        → Sound (unless k [] b (cond w (outcome (reply 100 (held b) 0) [] b) (outcome (reply 0 (held b + 1) 0) [] (put e b))) .book)
+        → Sound (unless k [] b (admit w e b) .book)
     go zero z true h = s
     go zero z false h = put-sound n b e s (acceptable n (front b) e z) t h
     go (suc k) z w h = s
@@ -117,8 +112,7 @@ unfolding step
 add-same b n e = go (addNumber n (front b) e) (has (b .entries) e)
   where
     go : (k : ℕ) (w : Bool)
-        → let c = unless k [] b (cond w (outcome (reply 100 (held b) 0) [] b) (outcome (reply 0 (held b + 1) 0) [] (put e b))) in
-        (c .book .M ≡ b .M) × (c .book .L ≡ b .L) × (c .result .answer ≡ [])
+        → let c = unless k [] b (admit w e b) in (c .book .M ≡ b .M) × (c .book .L ≡ b .L) × (c .result .answer ≡ [])
     go zero true = (refl, refl, refl)
     go zero false = (refl, refl, refl)
     go (suc k) w = (refl, refl, refl)

@@ -25,7 +25,7 @@ use Rattle.book.specs.Searching.{matching, nodes}
 use Rattle.book.specs.Records.{recordOf, levelRead, records}
 use Rattle.book.specs.Replies.{Reply, reply, Result, result, setupNumber, addNumber, searchNumber, readNumber}
 use Rattle.book.specs.Calls.{Call, setup, add, search, readLevel}
-use Rattle.book.specs.Step.{Outcome, outcome, unless, list, step, answers, after}
+use Rattle.book.specs.Step.{Outcome, outcome, unless, admit, fill, list, step, answers, after}
 use Rattle.book.specs.Image.{HoldsBook}
 use Rattle.book.specs.Ran.{Did, Ran, Begun}
 use Rattle.book.specs.Accepted.{noted, notedFrom, accepted}
@@ -56,7 +56,7 @@ unfolding step
 add-noted b n e = go (addNumber n (front b) e) (has (b .entries) e)
   where
     o : ℕ → Bool → Outcome
-    o k w = unless k [] b (cond w (outcome (reply 100 (held b) 0) [] b) (outcome (reply 0 (held b + 1) 0) [] (put e b)))
+    o k w = unless k [] b (admit w e b)
 
     go : (k : ℕ) (w : Bool) → o k w .book ≡ noted b (add n e) (o k w .result .reply .number)
     go zero true = refl
@@ -86,7 +86,7 @@ unfolding step
 add-told b n e = go (addNumber n (front b) e) refl (has (b .entries) e) refl
   where
     o : ℕ → Bool → Outcome
-    o k w = unless k [] b (cond w (outcome (reply 100 (held b) 0) [] b) (outcome (reply 0 (held b + 1) 0) [] (put e b)))
+    o k w = unless k [] b (admit w e b)
 
     go : (k : ℕ) → addNumber n (front b) e ≡ k → (w : Bool) → has (b .entries) e ≡ w → Told b e (o k w .result .reply)
     go (suc k) z w q = record { nine = λ h. only-full n (front b) e (z ∙ h); hundred = λ h. absurd (let l = add-below n (front b) e in omega arith) }
@@ -102,7 +102,7 @@ length-matching q es = length-sorted entryOrder (pick (matchesEntry q) es) ∙ l
 search-told : (b : Book) (n : ℕ) (q : Query) (answer : List ℕ) → searchNumber n (front b) q ≡ 0 → count (matchesEntry q) (b .entries) * rowSize ≤ length answer
     → let found = matching q (b .entries) in
     step b (search n q answer) .result ≡ result (reply 0 (length found) (nodes q b)) (splice answer 0 (flat (map row found)))
-unfolding step list
+unfolding step list fill
 search-told b n q answer z space =
     let found = matching q (b .entries) in
     let y : ltb (length answer) (length (map row found) * rowSize) ≡ false = rw (length-map found row, length-matching q (b .entries)) (le-ltb (length answer) (count (matchesEntry q) (b .entries) * rowSize) space) in
@@ -110,7 +110,7 @@ search-told b n q answer z space =
 
 read-told : (b : Book) (n i : ℕ) (answer : List ℕ) → readNumber n (front b) ≡ 0 → length (levelRead i b) * recordSize ≤ length answer
     → step b (readLevel n i answer) .result ≡ result (reply 0 (length (levelRead i b)) 0) (splice answer 0 (flat (records i b)))
-unfolding step list
+unfolding step list fill
 read-told b n i answer z space =
     let size : length (records i b) ≡ length (levelRead i b) = unfold records in length-map (levelRead i b) _ in
     let y : ltb (length answer) (length (records i b) * recordSize) ≡ false = rw size (le-ltb (length answer) (length (levelRead i b) * recordSize) space) in

@@ -21,7 +21,7 @@ use Rattle.book.specs.Tries.{every, levelTrie, tries}
 use Rattle.book.specs.Searching.{matching, nodesOf, nodes}
 use Rattle.book.specs.Records.{stepBytes, walkBytes, recordOf, levelRead, records}
 use Rattle.book.specs.Replies.{setupNumber, addNumber, searchNumber, readNumber}
-use Rattle.book.specs.Step.{list, step, answers}
+use Rattle.book.specs.Step.{fill, list, step, answers}
 use Rattle.book.specs.Image.{padded, regions, storeOf, image}
 
 -- rows, patterns and queries
@@ -31,7 +31,7 @@ of-entries = 0
 
 -- the book's tries, and its step
 unfoldable pub of-a-book : ℕ
-unfolding of-entries of-a-level of-a-search inLimits need capacity noStore full digit rounds levelSize levelStart level small every levelTrie tries matching nodesOf nodes stepBytes walkBytes recordOf levelRead records setupNumber addNumber searchNumber readNumber list step answers
+unfolding of-entries of-a-level of-a-search inLimits need capacity noStore full digit rounds levelSize levelStart level small every levelTrie tries matching nodesOf nodes stepBytes walkBytes recordOf levelRead records setupNumber addNumber searchNumber readNumber fill list step answers
 of-a-book = 0
 
 -- the bytes of its store

@@ -1,13 +1,13 @@
 -- The book's answer to a call, and the book afterwards. Assumes nothing: these are definitions.
 use Prim.Native.Nat.{ℕ, zero, suc, _+_, _*_}
-use mathlib.Core.Bool.{cond}
+use mathlib.Core.Bool.{Bool, true, false}
 use mathlib.Core.List.{List, [], _∷_, map}
 use lib.ListN.{length}
 use lib.Dec.{ltb}
 use Rattle.buffer.specs.Lists.{flat}
 use Rattle.buffer.specs.Splice.{splice}
 use Rattle.rows.specs.Sizes.{rowSize, recordSize}
-use Rattle.rows.specs.Entry.{row}
+use Rattle.rows.specs.Entry.{Entry, row}
 use Rattle.book.specs.Book.{Book, held, front, fresh, put, has}
 use Rattle.book.specs.Searching.{matching, nodes}
 use Rattle.book.specs.Records.{records}
@@ -27,17 +27,23 @@ abbrev pub unless : ℕ → List ℕ → Book → Outcome → Outcome
 unless zero answer b o = o
 unless (suc n) answer b o = outcome (reply (suc n) 0 0) answer b
 
--- rows of one width go into the answer buffer, what comes after the last one stays; where they are too long for it, 11 gives their count
+-- an addition that no reason refuses: of an entry that the book has, 100 and nothing more; any other is put last
+abbrev pub admit : Bool → Entry → Book → Outcome
+admit true e b = outcome (reply 100 (held b) 0) [] b
+admit false e b = outcome (reply 0 (held b + 1) 0) [] (put e b)
+
+-- rows that are too long for the answer buffer: 11 gives their count; else they go into it, and what comes after the last one stays
+unfoldable pub fill : Bool → List (List ℕ) → ℕ → List ℕ → Book → Outcome
+fill true rows second answer b = outcome (reply 11 (length rows) 0) answer b
+fill false rows second answer b = outcome (reply 0 (length rows) second) (splice answer 0 (flat rows)) b
+
+-- rows of one width
 unfoldable pub list : ℕ → List (List ℕ) → ℕ → List ℕ → Book → Outcome
-list width rows second answer b =
-    cond (ltb (length answer) (length rows * width)) (outcome (reply 11 (length rows) 0) answer b)
-    (outcome (reply 0 (length rows) second) (splice answer 0 (flat rows)) b)
+list width rows second answer b = fill (ltb (length answer) (length rows * width)) rows second answer b
 
 unfoldable pub step : Book → Call → Outcome
 step b (setup n m l t) = unless (setupNumber n m l t) [] b (outcome (reply 0 0 0) [] (fresh m l t))
-step b (add n e) =
-    unless (addNumber n (front b) e) [] b
-    (cond (has (b .entries) e) (outcome (reply 100 (held b) 0) [] b) (outcome (reply 0 (held b + 1) 0) [] (put e b)))
+step b (add n e) = unless (addNumber n (front b) e) [] b (admit (has (b .entries) e) e b)
 step b (search n q answer) =
     unless (searchNumber n (front b) q) answer b (list rowSize (map row (matching q (b .entries))) (nodes q b) answer b)
 step b (readLevel n i answer) =

@@ -47,34 +47,37 @@ listing-row = refl
 abbrev one : Book
 one = record { M = 4; L = 2; τ = 1; entries = entry "/north/pond" 7 1 ∷ [] }
 
--- the examples of the table of numbers, in its sequence, then 100; beside 6 and 8 what is just not a reason
+-- the examples of the table of numbers, in its sequence, then 100; beside 4, 6, 8 and 11 what is just a reason, or just not one
 abbrev examples : List Call
 examples =
     add 65536 (entry "/north//pond" 7 1)
     ∷ add 65536 (record { path = 47 ∷ replicate 200 97; value = 7; reference = replicate 20 0 })
     ∷ add 65536 (record { path = text "/north/pond"; value = 7; reference = replicate 19 0 })
-    ∷ add 15 (entry "/north/pond" 7 1)
+    ∷ add 15 (entry "/north/pond" 7 1) ∷ add 20479 (entry "/north/pond" 7 1)
     ∷ setup 65536 0 2 1
     ∷ setup 20479 4 2 1 ∷ setup 20480 4 2 1
     ∷ search 65536 (query (text "/a**b") 0 8) []
     ∷ search 65536 (query (flat (replicate 33 (text "/a"))) 0 8) [] ∷ search 65536 (query (flat (replicate 32 (text "/a"))) 0 8) []
     ∷ search 65536 (query (text "/**/edge") 9 8) []
-    ∷ search 65536 (query (text "/**") 0 8) (replicate 228 0)
+    ∷ search 65536 (query (text "/**") 0 8) (replicate 228 0) ∷ search 65536 (query (text "/**") 0 8) (replicate 229 0)
     ∷ add 65536 (entry "/north/pond" 7 1) ∷ []
 
 pub example-replies :
     map (λ (c : Call). step one c .result .reply) examples
-    ≡ reply 1 0 0 ∷ reply 2 0 0 ∷ reply 3 0 0 ∷ reply 4 0 0 ∷ reply 5 0 0 ∷ reply 6 0 0 ∷ reply 0 0 0 ∷ reply 7 0 0 ∷ reply 8 0 0 ∷ reply 0 0 1
-    ∷ reply 10 0 0 ∷ reply 11 1 0 ∷ reply 100 1 0 ∷ []
+    ≡ reply 1 0 0 ∷ reply 2 0 0 ∷ reply 3 0 0 ∷ reply 4 0 0 ∷ reply 4 0 0 ∷ reply 5 0 0 ∷ reply 6 0 0 ∷ reply 0 0 0 ∷ reply 7 0 0 ∷ reply 8 0 0 ∷ reply 0 0 1
+    ∷ reply 10 0 0 ∷ reply 11 1 0 ∷ reply 0 1 1 ∷ reply 100 1 0 ∷ []
 unfolding of-a-book
 example-replies = refl
 
--- 4 before the first setup; a setup of numbers that 32 bits cut off would let pass is 5; 9: the second entry with 1, 1, 1, a repeat too
+-- 4 before the first setup; a setup of numbers that 32 bits cut off would let pass is 5; 9: the second entry with 1, 1, 1, a repeat too;
+-- a refused setup changes nothing, an accepted one strikes out all entries
 pub example-full :
     replies blank
     (readLevel 6144 0 [] ∷ setup 6144 4294967297 1 1 ∷ setup 6144 1 1 1 ∷ add 6144 (entry "/north/pond" 7 1)
-    ∷ add 6144 (entry "/north/edge" 7 1) ∷ add 6144 (entry "/north/pond" 7 1) ∷ [])
-    ≡ reply 4 0 0 ∷ reply 5 0 0 ∷ reply 0 0 0 ∷ reply 0 1 0 ∷ reply 9 0 0 ∷ reply 9 0 0 ∷ []
+    ∷ add 6144 (entry "/north/edge" 7 1) ∷ add 6144 (entry "/north/pond" 7 1) ∷ setup 6144 2 1 1 ∷ add 6144 (entry "/north/edge" 7 1)
+    ∷ setup 6144 1 1 1 ∷ add 6144 (entry "/north/edge" 7 1) ∷ [])
+    ≡ reply 4 0 0 ∷ reply 5 0 0 ∷ reply 0 0 0 ∷ reply 0 1 0 ∷ reply 9 0 0 ∷ reply 9 0 0 ∷ reply 6 0 0 ∷ reply 9 0 0 ∷ reply 0 0 0 ∷ reply 0 1 0
+    ∷ []
 unfolding of-a-book
 example-full = refl
 
