@@ -22,9 +22,10 @@ use Rattle.book.specs.Digits.{digit, rounds, levelSize, level, small}
 use Rattle.book.specs.Book.{Book, Sound, put, held, formed}
 use Rattle.book.specs.Tries.{every, levelTrie, tries}
 use Rattle.book.specs.Overflow.{fromHighest}
+use Rattle.book.specs.FromTries.{entriesIn}
 use Rattle.book.proofs.Digits.{begin, below}
 use Rattle.book.proofs.Overflow.{stays, overflows, ones, round-full}
-use Rattle.book.proofs.Keys.{fits-row, fits-rows, keyEntry}
+use Rattle.book.proofs.Keys.{fits-row, fits-rows}
 use Rattle.book.proofs.Book.{all-snoc}
 use Rattle.book.proofs.Image.{all-drop}
 use Rattle.book.proofs.Listed.{count-append}
@@ -97,13 +98,13 @@ module _ (b : Book) (e : Entry) (j : ℕ) (h : length (small (b .M) (b .entries)
 
   -- level j is the trie of the keys of the small trie and all lower levels, and the new one, gathered in whatever sequence
   pub level-built : Sound b → formed e ≡ true → (xs : List Entry)
-      → ((p : Entry → Bool) → count p xs ≡ count p (flat (map (λ t. map keyEntry (keys [] t)) (every j (tries b))) ++ (e ∷ [])))
+      → ((p : Entry → Bool) → count p xs ≡ count p (entriesIn j (tries b) ++ (e ∷ [])))
       → tries (put e b) .level j ≡ levelTrie (b .τ) xs
   unfolding tries
   level-built s f xs c =
       let es = fromHighest (b .M) j (b .entries) ++ (e ∷ []) in
       let counts : (p : Entry → Bool) → count p xs ≡ count p es = λ p.
-          c p ∙ count-append p (flat (map (λ t. map keyEntry (keys [] t)) (every j (tries b)))) (e ∷ [])
+          c p ∙ count-append p (entriesIn j (tries b)) (e ∷ [])
           ∙ ap (λ (n : ℕ). n + count p (e ∷ [])) (kept-count b s j p) ∙ sym (count-append p (fromHighest (b .M) j (b .entries)) (e ∷ [])) in
       let fits = fits-rows es (all-snoc formed (fromHighest (b .M) j (b .entries)) e (highest-formed (b .M) j (b .entries) (s .formed)) f) in
       ap (levelTrie (b .τ)) (overflows (b .M) j (b .entries) e h empty others .into)

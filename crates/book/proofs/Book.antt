@@ -25,7 +25,7 @@ use Rattle.book.specs.Replies.{reply, result, setupNumber, addNumber, se
 use Rattle.book.specs.Calls.{Call, setup, add, search, readLevel, typed}
 use Rattle.book.specs.Searching.{matching, nodes}
 use Rattle.book.specs.Records.{records}
-use Rattle.book.specs.Step.{Outcome, outcome, unless, admit, fill, list, step}
+use Rattle.book.specs.Step.{Outcome, outcome, unless, admit, step}
 use Rattle.book.proofs.Front.{within}
 use Rattle.book.proofs.Numbers.{Acceptable, acceptable, setup-fits}
 
@@ -53,23 +53,18 @@ distinct-snoc (y ∷ es) e d h =
     let m : has (es ++ (e ∷ [])) y ≡ false = has-append es (e ∷ []) y ∙ or-false (has es y) (sameEntry y e || false) n (or-false (sameEntry y e) false (same-sym e y p) refl) in
     rw m (distinct-snoc es e (and-right (not (has es y)) (distinct es) d) q)
 
--- a listing leaves the book as it is
-fill-book : (w : Bool) (rows : List (List ℕ)) (second : ℕ) (answer : List ℕ) (b : Book) → fill w rows second answer b .book ≡ b
-unfolding fill
-fill-book true rows second answer b = refl
-fill-book false rows second answer b = refl
-
+-- a search and a reading back leave the book as it is
 unless-book : (n : ℕ) (answer : List ℕ) (b : Book) (o : Outcome) → o .book ≡ b → unless n answer b o .book ≡ b
 unless-book zero answer b o e = e
 unless-book (suc n) answer b o e = refl
 
 pub search-book : (b : Book) (n : ℕ) (q : Query) (answer : List ℕ) → step b (search n q answer) .book ≡ b
-unfolding step list
-search-book b n q answer = unless-book (searchNumber n (front b) q) answer b _ (fill-book _ _ _ answer b)
+unfolding step
+search-book b n q answer = unless-book (searchNumber n (front b) q) answer b _ refl
 
 pub read-book : (b : Book) (n i : ℕ) (answer : List ℕ) → step b (readLevel n i answer) .book ≡ b
-unfolding step list
-read-book b n i answer = unless-book (readNumber n (front b)) answer b _ (fill-book _ _ _ answer b)
+unfolding step
+read-book b n i answer = unless-book (readNumber n (front b)) answer b _ refl
 
 -- an empty book is sound within the limits
 pub fresh-sound : (m l t : ℕ) → inLimits m l t ≡ true → Sound (fresh m l t)
@@ -121,7 +116,7 @@ pub setup-sound : (b : Book) (n m l t : ℕ) → Sound b → Sound (step b (setu
 unfolding step
 setup-sound b n m l t s = go (setupNumber n m l t) refl
   where
-    go : (k : ℕ) → setupNumber n m l t ≡ k → Sound (unless k [] b (outcome (reply 0 0 0) [] (fresh m l t)) .book)
+    go : (k : ℕ) → setupNumber n m l t ≡ k → Sound (unless k [] b (outcome (result (reply 0 0 0) []) (fresh m l t)) .book)
     go zero z = fresh-sound m l t (setup-fits n m l t z .0)
     go (suc k) z = s
 

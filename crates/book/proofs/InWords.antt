@@ -45,7 +45,7 @@ unfolding step
 setup-noted b n m l t = go (setupNumber n m l t)
   where
     o : ℕ → Outcome
-    o k = unless k [] b (outcome (reply 0 0 0) [] (fresh m l t))
+    o k = unless k [] b (outcome (result (reply 0 0 0) []) (fresh m l t))
 
     go : (k : ℕ) → o k .book ≡ noted b (setup n m l t) (o k .result .reply .number)
     go zero = refl

@@ -26,6 +26,7 @@ use Rattle.trie_theory.specs.Entries as Dimensions
 use Rattle.trie_theory.specs.Entries.{complete, isValue, isPath, dims}
 use Rattle.entries.specs.Keys.{entryKey}
 use Rattle.book.specs.Book.{formed}
+use Rattle.book.specs.FromTries.{keyEntry}
 
 -- what `formed` says
 pub record Formed (e : Entry) : Type 0 where
@@ -129,10 +130,7 @@ fits-row e h =
 pub fits-rows : (es : List Entry) → all formed es ≡ true → all fitsRow es ≡ true
 fits-rows es h = all-test fitsRow (all-imp fits-row (all-tested formed es h))
 
--- the entry that a key is of
-unfoldable pub keyEntry : Key → Entry
-keyEntry x = record { path = take (length (at 1 (x .strings)) - 1) (at 1 (x .strings)); value = number (at 0 (x .strings)); reference = x .reference }
-
+-- a key gives its entry back
 before-last : (t : List ℕ) → take (length (t ++ (0 ∷ [])) - 1) (t ++ (0 ∷ [])) ≡ t
 before-last t = take-at t (0 ∷ []) (length (t ++ (0 ∷ [])) - 1) (omega (arith, length-append t (0 ∷ [])))
 

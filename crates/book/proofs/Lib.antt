@@ -14,3 +14,4 @@ pub mod Additions
 pub mod Records
 pub mod Regions
 pub mod Writes
+pub mod FromTries

@@ -36,8 +36,9 @@ use Rattle.book.specs.Searching.{matching, nodesOf, nodes}
 use Rattle.book.specs.InWords.{branches}
 use Rattle.entries.proofs.Entered.{entered-exactly}
 use Rattle.book.specs.Overflow.{fromHighest}
+use Rattle.book.specs.FromTries.{keyEntry, entriesOf, foundOf, entriesIn, foundIn, hasIn}
 use Rattle.book.proofs.Digits.{levels-whole}
-use Rattle.book.proofs.Keys.{as-formed, entry-key, keys-entries, fits-rows, keyEntry, key-entry}
+use Rattle.book.proofs.Keys.{as-formed, entry-key, keys-entries, fits-rows, key-entry}
 use Rattle.book.proofs.Image.{level-formed, small-formed, small-trie-of, level-trie-of}
 use Rattle.book.proofs.Listed.{count-append}
 
@@ -147,13 +148,15 @@ level-for b s i =
     trie-for es (sorted entryOrder es) (tries b .level i) (all-sorted entryOrder formed es f) (λ p. count-sorted entryOrder p es) (λ e. Rattle.book.proofs.Listed.has-sorted es e) (level-trie-of es f (b .τ))
 
 -- the entries of its keys, and those that a search finds, by counts
-pub keys-count : {es : List Entry} {t : Forest} → TrieFor es t → (p : Entry → Bool) → count p (map keyEntry (keys [] t)) ≡ count p es
+pub keys-count : {es : List Entry} {t : Forest} → TrieFor es t → (p : Entry → Bool) → count p (entriesOf t) ≡ count p es
+unfolding entriesOf
 keys-count {es} {t} r p =
     count-map p keyEntry (keys [] t) ∙ r .kept (λ x. p (keyEntry x))
     ∙ count-agree (λ e. p (keyEntry (entryKey e))) p (Rattle.buffer.proofs.Lists.all-every es (λ e. ap p (key-entry e)))
 
 pub found-count : {es : List Entry} {t : Forest} (q : Query) → TrieFor es t → all formed es ≡ true → (p : Entry → Bool)
-    → count p (map keyEntry (found (reaches q) (wants q) root [] t)) ≡ count p (pick (matchesEntry q) es)
+    → count p (foundOf q t) ≡ count p (pick (matchesEntry q) es)
+unfolding foundOf
 found-count {es} {t} q r f p =
     ap (λ (l : List Key). count p (map keyEntry l)) (found-keys q root [] t (r .valued))
     ∙ count-map p keyEntry (pick (wants q) (keys [] t))
@@ -185,33 +188,31 @@ module _ (b : Book) (s : Sound b) where
   whole = levels-whole (b .M) (b .L) (b .entries) (s .room)
 
   -- the entries of all keys of the small trie and the levels below l, by counts
-  pub kept-count : (l : ℕ) (p : Entry → Bool)
-      → count p (flat (map (λ t. map keyEntry (keys [] t)) (every l (tries b)))) ≡ count p (fromHighest (b .M) l (b .entries))
+  pub kept-count : (l : ℕ) (p : Entry → Bool) → count p (entriesIn l (tries b)) ≡ count p (fromHighest (b .M) l (b .entries))
+  unfolding entriesIn
   kept-count l p =
-      count-flat p (λ t. map keyEntry (keys [] t)) (every l (tries b))
-      ∙ sum-tries b (λ t. count p (map keyEntry (keys [] t))) (count p) (count-append p) (keys-count (small-for b s) p) (λ i. keys-count (level-for b s i) p) l
+      count-flat p entriesOf (every l (tries b))
+      ∙ sum-tries b (λ t. count p (entriesOf t)) (count p) (count-append p) (keys-count (small-for b s) p) (λ i. keys-count (level-for b s i) p) l
 
-  -- the entries that a search finds in all tries
-  unfoldable pub gathered : Query → List Entry
-  gathered q = flat (map (λ t. map keyEntry (found (reaches q) (wants q) root [] t)) (every (b .L) (tries b)))
-
-  gathered-count : (q : Query) (p : Entry → Bool) → count p (gathered q) ≡ count p (pick (matchesEntry q) (b .entries))
-  unfolding gathered
-  gathered-count q p =
-      count-flat p (λ t. map keyEntry (found (reaches q) (wants q) root [] t)) (every (b .L) (tries b))
-      ∙ sum-tries b (λ t. count p (map keyEntry (found (reaches q) (wants q) root [] t))) (λ es. count p (pick (matchesEntry q) es))
+  -- .. and of those that a search finds
+  found-counts : (q : Query) (p : Entry → Bool) → count p (foundIn q (b .L) (tries b)) ≡ count p (pick (matchesEntry q) (b .entries))
+  unfolding foundIn
+  found-counts q p =
+      count-flat p (foundOf q) (every (b .L) (tries b))
+      ∙ sum-tries b (λ t. count p (foundOf q t)) (λ es. count p (pick (matchesEntry q) es))
       (λ xs ys. ap (count p) (Rattle.buffer.proofs.Lists.pick-append (matchesEntry q) xs ys) ∙ count-append p (pick (matchesEntry q) xs) (pick (matchesEntry q) ys))
       (found-count q (small-for b s) (small-formed (b .M) (b .entries) (s .formed)) p)
       (λ i. found-count q (level-for b s i) (level-formed (b .M) i (b .entries) (s .formed)) p) (b .L)
       ∙ ap (λ (es : List Entry). count p (pick (matchesEntry q) es)) whole
 
   -- THE ROWS FOUND IN THE TRIES, SORTED, ARE THE BOOK'S
-  pub rows-found : (q : Query) → sorted entryOrder (gathered q) ≡ matching q (b .entries)
+  pub rows-found : (q : Query) → sorted entryOrder (foundIn q (b .L) (tries b)) ≡ matching q (b .entries)
   unfolding matching
   rows-found q =
-      entries-decided (gathered q) (pick (matchesEntry q) (b .entries))
-      (all-test fitsRow (count-none fitsRow (gathered q) (gathered-count q (λ e. not (fitsRow e)) ∙ none-count fitsRow picked)))
-      (all-test fitsRow picked) (λ e. gathered-count q (sameEntry e))
+      let found = foundIn q (b .L) (tries b) in
+      entries-decided found (pick (matchesEntry q) (b .entries))
+      (all-test fitsRow (count-none fitsRow found (found-counts q (λ e. not (fitsRow e)) ∙ none-count fitsRow picked)))
+      (all-test fitsRow picked) (λ e. found-counts q (sameEntry e))
     where
       picked : All (λ e. fitsRow e ≡ true) (pick (matchesEntry q) (b .entries))
       picked = all-imp (λ e h. h .0) (Rattle.buffer.proofs.Lists.all-pick (matchesEntry q) (all-tested fitsRow (b .entries) (fits-rows (b .entries) (s .formed))))
@@ -236,7 +237,8 @@ module _ (b : Book) (s : Sound b) where
       swap false true = refl
       swap false false = refl
 
-  pub looked-up : (e : Entry) → any (λ t. member root t (entryKey e)) (every (b .L) (tries b)) ≡ has (b .entries) e
+  pub looked-up : (e : Entry) → hasIn (b .L) (tries b) e ≡ has (b .entries) e
+  unfolding hasIn
   looked-up e = looked-below e (b .L) ∙ ap (λ (es : List Entry). has es e) whole
 
   -- THE NODES ENTERED are those that the rule of entering admits

@@ -22,8 +22,9 @@ use Rattle.entries.specs.Keys.{entryKey}
 use Rattle.book.specs.Digits.{level}
 use Rattle.book.specs.Book.{Book, Sound, formed}
 use Rattle.book.specs.Tries.{levelTrie, tries}
+use Rattle.book.specs.FromTries.{entriesOf}
 use Rattle.book.specs.Records.{stepBytes, walkBytes, recordOf, levelRead, records}
-use Rattle.book.proofs.Keys.{fits-row, fits-rows, keyEntry}
+use Rattle.book.proofs.Keys.{fits-row, fits-rows}
 use Rattle.book.proofs.Image.{level-formed, level-trie-of}
 use Rattle.book.proofs.OverTries.{level-for, keys-count, count-none, none-count}
 
@@ -49,11 +50,11 @@ length-record τ es h e f =
 
 -- READ FROM THE TRIE: the entries of its keys, in row sequence, each with its nodes there
 pub records-read : (b : Book) → Sound b → (i : ℕ) → i < b .L
-    → records i b ≡ map (recordOf (tries b .level i)) (sorted entryOrder (map keyEntry (keys [] (tries b .level i))))
+    → records i b ≡ map (recordOf (tries b .level i)) (sorted entryOrder (entriesOf (tries b .level i)))
 unfolding records levelRead tries
 records-read b s i h =
     let es = level (b .M) i (b .entries) in
-    let xs = map keyEntry (keys [] (tries b .level i)) in
+    let xs = entriesOf (tries b .level i) in
     let r = level-for b s i in
     let f = fits-rows es (level-formed (b .M) i (b .entries) (s .formed)) in
     rw (lt-ltb i (b .L) h)

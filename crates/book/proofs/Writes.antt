@@ -22,8 +22,8 @@ use Rattle.book.specs.Front.{Front, frontRoom, entryRoom, frontBytes, ne
 use Rattle.book.specs.Digits.{digit, rounds, small}
 use Rattle.book.specs.Book.{Book, Sound, held, front, put, formed}
 use Rattle.book.specs.Tries.{Tries, every, levelTrie, tries}
+use Rattle.book.specs.FromTries.{entriesIn}
 use Rattle.book.specs.Image.{padded, regions, storeOf, image, Holds, HoldsBook}
-use Rattle.book.proofs.Keys.{keyEntry}
 use Rattle.book.proofs.Image.{Fit, length-padded, length-regions, length-store, length-top, image-fits}
 use Rattle.book.proofs.Regions.{write-through, splice-mid, above, above-same, regions-above, smallAt, heldAt, holding, write-small, write-held}
 use Rattle.book.proofs.Additions.{small-grows, levels-stay, small-emptied, lower-emptied, higher-stay, level-built}
@@ -101,7 +101,7 @@ module _ (b : Book) (e : Entry) (s : Sound b) (s′ : Sound (put e b)) where
   -- sequence, and the held number
   pub add-level : formed e ≡ true → (j : ℕ) → j < b .L → length (small (b .M) (b .entries)) + 1 ≡ b .M → digit j (rounds (b .M) (b .entries)) ≡ 0
       → ((i : ℕ) → i < j → digit i (rounds (b .M) (b .entries)) ≡ 1) → (xs : List Entry)
-      → ((p : Entry → Bool) → count p xs ≡ count p (flat (map (λ t. map keyEntry (keys [] t)) (every j (tries b))) ++ (e ∷ [])))
+      → ((p : Entry → Bool) → count p xs ≡ count p (entriesIn j (tries b) ++ (e ∷ [])))
       → let n = entryRoom * b .M * 2 ^ j in
       splice (splice (image b) smallAt (replicate n 0 ++ padded n (encode (levelTrie (b .τ) xs)))) heldAt (bytesOf 4 (held b + 1)) ≡ image (put e b)
   unfolding image regions

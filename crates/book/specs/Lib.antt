@@ -8,6 +8,7 @@ pub mod Records
 pub mod Replies
 pub mod Calls
 pub mod Step
+pub mod FromTries
 -- The store, the promises of the four calls, and lists of calls
 pub mod Image
 pub mod Promises

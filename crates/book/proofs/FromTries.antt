@@ -1,0 +1,41 @@
+-- The answers from the tries of a book are the book's.
+use Prim.Native.Nat.{ℕ, _≤_, _<_}
+use mathlib.Core.Path.{_≡_, refl, sym, ap, _∙_}
+use mathlib.Core.Bool.{Bool, true, false, cond}
+use mathlib.Core.List.{List, [], map}
+use lib.ListN.{length}
+use lib.Dec.{ltb}
+use borrow.Author.Tests.{ltb-true}
+use Rattle.rows.specs.Sizes.{rowSize, recordSize}
+use Rattle.rows.specs.Entry.{Entry, row}
+use Rattle.rows.specs.Order.{entryOrder}
+use Rattle.rows.specs.Sorted.{sorted}
+use Rattle.entries.specs.Query.{Query}
+use Rattle.book.specs.Book.{Book, Sound, front, has}
+use Rattle.book.specs.Digits.{level}
+use Rattle.book.specs.Tries.{levelTrie, tries}
+use Rattle.book.specs.Searching.{nodes, nodesOf, matching}
+use Rattle.book.specs.Records.{recordOf, levelRead, records}
+use Rattle.book.specs.Replies.{Result, searchNumber, readNumber}
+use Rattle.book.specs.Calls.{search, readLevel, add}
+use Rattle.book.specs.Step.{list, outcome, unless, step}
+use Rattle.book.specs.FromTries.{entriesOf, foundIn, hasIn, searchTries, readTries}
+use Rattle.book.proofs.OverTries.{rows-found}
+use Rattle.book.proofs.Records.{records-read}
+
+module _ (b : Book) (s : Sound b) where
+  pub search-tries : (n : ℕ) (q : Query) (answer : List ℕ) → searchNumber n (front b) q ≡ 0
+      → step b (search n q answer) .result ≡ searchTries q (b .L) (tries b) answer
+  unfolding step searchTries nodes
+  search-tries n q answer z = rw (z, rows-found b s q)
+
+  pub read-tries : (n i : ℕ) (answer : List ℕ) → readNumber n (front b) ≡ 0 → step b (readLevel n i answer) .result ≡ readTries i (b .L) (tries b) answer
+  unfolding step readTries
+  read-tries n i answer z = rw z (ap (λ (rs : List (List ℕ)). list recordSize rs 0 answer) (go (ltb i (b .L)) refl))
+    where
+      none : ltb i (b .L) ≡ false → records i b ≡ []
+      none e = unfold records levelRead in rw e
+
+      go : (w : Bool) → ltb i (b .L) ≡ w → records i b ≡ cond w (map (recordOf (tries b .level i)) (sorted entryOrder (entriesOf (tries b .level i)))) []
+      go true e = records-read b s i (ltb-true i (b .L) e)
+      go false e = none e
