@@ -104,8 +104,8 @@ module _ (b : Book) (e : Entry) (j : ℕ) (h : length (small (b .M) (b .entries)
   level-built s f xs c =
       let es = fromHighest (b .M) j (b .entries) ++ (e ∷ []) in
       let counts : (p : Entry → Bool) → count p xs ≡ count p es = λ p.
-          c p ∙ count-append p (entriesIn j (tries b)) (e ∷ [])
-          ∙ ap (λ (n : ℕ). n + count p (e ∷ [])) (kept-count b s j p) ∙ sym (count-append p (fromHighest (b .M) j (b .entries)) (e ∷ [])) in
+      c p ∙ count-append p (entriesIn j (tries b)) (e ∷ [])
+      ∙ ap (λ (n : ℕ). n + count p (e ∷ [])) (kept-count b s j p) ∙ sym (count-append p (fromHighest (b .M) j (b .entries)) (e ∷ [])) in
       let fits = fits-rows es (all-snoc formed (fromHighest (b .M) j (b .entries)) e (highest-formed (b .M) j (b .entries) (s .formed)) f) in
       ap (levelTrie (b .τ)) (overflows (b .M) j (b .entries) e h empty others .into)
       ∙ level-decided (b .τ) es xs fits

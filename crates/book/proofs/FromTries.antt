@@ -16,14 +16,18 @@ use Rattle.book.specs.Digits.{level}
 use Rattle.book.specs.Tries.{levelTrie, tries}
 use Rattle.book.specs.Searching.{nodes, nodesOf, matching}
 use Rattle.book.specs.Records.{recordOf, levelRead, records}
-use Rattle.book.specs.Replies.{Result, searchNumber, readNumber}
+use Rattle.book.specs.Replies.{Result, addNumber, searchNumber, readNumber}
 use Rattle.book.specs.Calls.{search, readLevel, add}
-use Rattle.book.specs.Step.{list, outcome, unless, step}
+use Rattle.book.specs.Step.{Outcome, list, outcome, unless, admit, step}
 use Rattle.book.specs.FromTries.{entriesOf, foundIn, hasIn, searchTries, readTries}
-use Rattle.book.proofs.OverTries.{rows-found}
+use Rattle.book.proofs.OverTries.{rows-found, looked-up}
 use Rattle.book.proofs.Records.{records-read}
 
 module _ (b : Book) (s : Sound b) where
+  pub add-tries : (n : ℕ) (e : Entry) → addNumber n (front b) e ≡ 0 → step b (add n e) ≡ admit (hasIn (b .L) (tries b) e) e b
+  unfolding step
+  add-tries n e z = rw (z, looked-up b s e)
+
   pub search-tries : (n : ℕ) (q : Query) (answer : List ℕ) → searchNumber n (front b) q ≡ 0
       → step b (search n q answer) .result ≡ searchTries q (b .L) (tries b) answer
   unfolding step searchTries nodes

@@ -8,12 +8,12 @@ use native.Mathlib.Nat.{mul-le-mul}
 use lib.ListN.{length, take, drop, take-append-drop}
 use lib.Pow.{pow-mono}
 use lib.Dec.{leb, ltb}
-use borrow.Author.Tests.{leb-true, le-ltb, lt-ltb, ltb-true}
+use borrow.Author.Tests.{leb-true, le-ltb, lt-ltb, ltb-true, ltb-false}
 use Rattle.buffer.specs.Numbers.{bytesOf}
 use Rattle.buffer.proofs.Digits.{number-bytesOf}
-use Rattle.buffer.proofs.Tests.{and-left, and-right, bool-ext}
+use Rattle.buffer.proofs.Tests.{and-left, and-right}
 use Rattle.book.specs.Front.{Front, frontSize, entryRoom, frontRoom, frontBytes, frontOf, inLimits, need, capacity, noStore}
-use Rattle.book.specs.Book.{Book, Sound, held, front}
+use Rattle.book.specs.Book.{Book, Sound, held, front, Four-Exactly}
 
 -- the front read from where it was written
 back : (f : Front) (s : List ℕ) → frontOf (frontBytes f ++ s) ≡ f
@@ -83,9 +83,9 @@ long-enough n b s h =
     rw (e₁, s .limits, e₂, e₃)
 
 -- "4 holds exactly where the length lent is below the need for the book's M and L"
-pub four-exactly : (n : ℕ) (b : Book) → Sound b → noStore n (front b) ≡ ltb n (need (b .M) (b .L))
+pub four-exactly : Four-Exactly
 four-exactly n b s = go (ltb n (need (b .M) (b .L))) refl
   where
     go : (w : Bool) → ltb n (need (b .M) (b .L)) ≡ w → noStore n (front b) ≡ w
     go true e = too-short n (front b) (ltb-true n (need (b .M) (b .L)) e)
-    go false e = long-enough n b s (omega (arith, borrow.Author.Tests.ltb-false n (need (b .M) (b .L)) e))
+    go false e = long-enough n b s (ltb-false n (need (b .M) (b .L)) e)

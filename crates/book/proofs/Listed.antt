@@ -119,5 +119,5 @@ pub distinct-part : (n k : ℕ) (es : List Entry) → distinct es ≡ true → d
 unfolding Once
 distinct-part n k es d =
     once-distinct (take n (drop k es)) (λ e.
-      let c = count (sameEntry e) in
-      omega (arith, distinct-once es d e, ap c (take-append-drop k es), count-append (sameEntry e) (take k es) (drop k es), ap c (take-append-drop n (drop k es)), count-append (sameEntry e) (take n (drop k es)) (drop n (drop k es))))
+    let c = count (sameEntry e) in
+    omega (arith, distinct-once es d e, ap c (take-append-drop k es), count-append (sameEntry e) (take k es) (drop k es), ap c (take-append-drop n (drop k es)), count-append (sameEntry e) (take n (drop k es)) (drop n (drop k es))))

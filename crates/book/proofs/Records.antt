@@ -1,31 +1,34 @@
 -- Records of a level read back: 860 bytes each, and made from the level's trie alone.
 use Prim.Native.Nat.{ℕ, suc, _+_, _*_, _-_, _≤_, _<_}
-use mathlib.Core.Path.{_≡_, refl, sym, ap, _∙_}
+use mathlib.Core.Path.{_≡_, refl, sym, ap, _∙_, subst}
 use mathlib.Core.Bool.{true, not}
 use mathlib.Core.List.{List, [], _∷_, _++_, map}
 use native.Mathlib.Omega.{arith}
 use lib.ListN.{length, replicate, length-append, length-replicate}
 use borrow.Author.Tests.{lt-ltb}
 use Rattle.buffer.specs.Lists.{all, flat}
-use Rattle.buffer.proofs.Lists.{all-tested, all-test}
+use Rattle.buffer.proofs.Lists.{all-tested, all-test, In, at-head, later, any-in}
 use Rattle.rows.specs.Sizes.{rowSize, recordSize, nodeLimit}
 use Rattle.rows.specs.Entry.{Entry, row, sameEntry, fitsRow}
 use Rattle.rows.specs.Order.{entryOrder}
 use Rattle.rows.specs.Sorted.{sorted}
-use Rattle.rows.proofs.Rows.{length-row, entries-decided}
+use Rattle.rows.proofs.Rows.{length-row, entries-decided, same-entry}
 use Rattle.trie_theory.specs.Forest.{Forest, keys}
-use Rattle.trie_theory.specs.Walk.{Step, walk}
+use Rattle.trie_theory.specs.Walk.{Step, walk, route}
+use Rattle.trie_theory.specs.Dimensions.{root}
+use Rattle.trie_theory.proofs.LevelWalk.{level-walk}
 use Rattle.trie_theory.specs.Size.{height}
 use Rattle.trie_theory.proofs.Walk.{walk-height}
 use Rattle.trie_theory.proofs.TrieOf.{figures}
 use Rattle.entries.specs.Keys.{entryKey}
 use Rattle.book.specs.Digits.{level}
-use Rattle.book.specs.Book.{Book, Sound, formed}
-use Rattle.book.specs.Tries.{levelTrie, tries}
+use Rattle.book.specs.Book.{Book, Sound, formed, has}
+use Rattle.book.specs.Tries.{dimensions, levelTrie, tries}
 use Rattle.book.specs.FromTries.{entriesOf}
 use Rattle.book.specs.Records.{stepBytes, walkBytes, recordOf, levelRead, records}
 use Rattle.book.proofs.Keys.{fits-row, fits-rows}
 use Rattle.book.proofs.Image.{level-formed, level-trie-of}
+use Rattle.book.proofs.Listed.{has-sorted}
 use Rattle.book.proofs.OverTries.{level-for, keys-count, count-none, none-count}
 
 length-steps : (steps : List Step) → length (flat (map stepBytes steps)) ≡ 3 * length steps
@@ -47,6 +50,20 @@ length-record τ es h e f =
     let steps = walk [] t (entryKey e) in
     let few : length steps ≤ nodeLimit = omega (arith, walk-height [] t (entryKey e), figures (level-trie-of es h τ) .1) in
     omega (arith, length-append (row e) (walkBytes steps), length-row e f, length-walk steps few)
+
+-- the nodes of an entry are its partitioning sequence (Definition 7)
+pub record-nodes : (τ : ℕ) (es : List Entry) (e : Entry) → has es e ≡ true
+    → walk [] (levelTrie τ es) (entryKey e) ≡ route dimensions τ root (map entryKey (sorted entryOrder es)) (entryKey e)
+unfolding levelTrie
+record-nodes τ es e h =
+    level-walk dimensions τ (map entryKey (sorted entryOrder es)) (entryKey e) (in-map (any-in (sameEntry e) (sorted entryOrder es) (has-sorted es e ∙ h)))
+  where
+    mapped : {x : Entry} {xs : List Entry} → In x xs → In (entryKey x) (map entryKey xs)
+    mapped at-head = at-head
+    mapped (later i) = later (mapped i)
+
+    in-map : {xs : List Entry} → (x : Entry) × In x xs × (sameEntry e x ≡ true) → In (entryKey e) (map entryKey xs)
+    in-map {xs} d = subst (λ (x : Entry). In (entryKey x) (map entryKey xs)) (sym (same-entry .equal e (d .0) (d .2))) (mapped (d .1))
 
 -- READ FROM THE TRIE: the entries of its keys, in row sequence, each with its nodes there
 pub records-read : (b : Book) → Sound b → (i : ℕ) → i < b .L

@@ -10,7 +10,7 @@ use Rattle.buffer.specs.Numbers.{byte}
 use Rattle.matcher.specs.Form.{pathForm, isFine}
 use Rattle.rows.specs.Sizes.{referenceSize}
 use Rattle.rows.specs.Entry.{Entry, sameEntry}
-use Rattle.book.specs.Front.{Front, inLimits}
+use Rattle.book.specs.Front.{Front, inLimits, need, noStore}
 
 -- M, L, τ and a sequence of entries, oldest first
 pub record Book : Type 0 where
@@ -57,3 +57,7 @@ pub record Sound (b : Book) : Type 0 where
   pub room : held b < b .M * 2 ^ b .L
   pub formed : all formed (b .entries) ≡ true
   pub once : distinct (b .entries) ≡ true
+
+-- number 4 of a book: exactly where the length lent is below the need for its M and L (proved in proofs/Front.antt)
+abbrev pub Four-Exactly : Type 0
+Four-Exactly = (lent : ℕ) (b : Book) → Sound b → noStore lent (front b) ≡ ltb lent (need (b .M) (b .L))

@@ -153,12 +153,12 @@ pub branch-decided : Branch-Decided
 unfolding reaches
 branch-decided q known bytes = (
   λ e.
-    let v = goesOn (valueReach q (at 0 known)) in
-    let p = goesOn (reachOf (q .pattern) (at 1 known)) in
-    record {
-      value = value-found q (at 0 known) bytes (sym (goesOn-value q (at 0 known)) ∙ and-left v p e);
-      path = continued (q .pattern) (at 1 known) (and-right v p e);
-    },
+      let v = goesOn (valueReach q (at 0 known)) in
+      let p = goesOn (reachOf (q .pattern) (at 1 known)) in
+      record {
+        value = value-found q (at 0 known) bytes (sym (goesOn-value q (at 0 known)) ∙ and-left v p e);
+        path = continued (q .pattern) (at 1 known) (and-right v p e);
+      },
   λ c. and-both (goesOn-value q (at 0 known) ∙ value-tested q (at 0 known) (c .value)) (goesOn-path (q .pattern) (at 1 known) (c .path)),
 )
 
