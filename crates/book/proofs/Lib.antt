@@ -15,3 +15,5 @@ pub mod Records
 pub mod Regions
 pub mod Writes
 pub mod FromTries
+pub mod Unique
+pub mod Alike

@@ -6,7 +6,9 @@ use mathlib.Core.Bool.{Bool, true, false, not, cond, _&&_, _||_}
 use mathlib.Core.List.{List, [], _∷_, _++_, map}
 use native.Mathlib.Omega.{arith}
 use lib.ListN.{length}
-use lib.Dec.{ltb}
+use lib.Dec.{eqb, ltb}
+use borrow.Author.Tests.{eqb-true, eq-eqb}
+use Rattle.trie_theory.specs.Encode.{Twenty}
 use Rattle.buffer.specs.Lists.{All, nil, cons, all, any, pick, sum, count, flat, same}
 use Rattle.buffer.specs.Numbers.{byte}
 use Rattle.buffer.proofs.Tests.{and-left, and-right, and-both, bool-ext, not-both}
@@ -112,6 +114,7 @@ pub record TrieFor (es : List Entry) (t : Forest) : Type 0 where
   pub lookup : (e : Entry) → member root t (entryKey e) ≡ has es e
   pub valued : All Valued (keys [] t)
   pub sound : Trie.Sound 2 root t
+  pub named : All Twenty (keys [] t)
 
 trie-for : (es xs : List Entry) (t : Forest) → all formed xs ≡ true → ((p : Entry → Bool) → count p xs ≡ count p es) → ((e : Entry) → has xs e ≡ has es e)
     → TrieOf 2 209 (map entryKey xs) t → TrieFor es t
@@ -120,9 +123,13 @@ trie-for es xs t f counts members r =
       kept = λ p. r .kept p ∙ count-map p entryKey xs ∙ counts (λ e. p (entryKey e));
       lookup = λ e. r .lookup (entryKey e) ∙ among-keys e xs ∙ members e;
       sound = r .sound;
+      named = all-imp (λ x t. eqb-true (length (x .reference)) 20 t) (count-none twenty? (keys [] t) (r .kept (λ x. not (twenty? x)) ∙ none-count twenty? (all-imp (λ x e. eq-eqb (length (x .reference)) 20 (e .named)) (keys-entries xs f))));
       valued = count-none valued? (keys [] t) (r .kept (λ x. not (valued? x)) ∙ none-count valued? (all-imp entry-valued (keys-entries xs f)));
     }
   where
+    twenty? : Key → Bool
+    twenty? x = eqb (length (x .reference)) 20
+
     valued? : Key → Bool
     valued? x = all byte (at 0 (x .strings))
 

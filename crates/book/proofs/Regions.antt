@@ -68,7 +68,7 @@ regions-above m i (suc n) t =
     rw (add-suc i n) (ap (λ (l : List ℕ). l ++ p) (regions-above m i n t) ∙ append-assoc (regions m i t) (above m i n t) p)
 
 -- what the regions depend on
-regions-same : (m l : ℕ) (t t′ : Tries) → t′ .small ≡ t .small → ((i : ℕ) → i < l → t′ .level i ≡ t .level i) → regions m l t′ ≡ regions m l t
+pub regions-same : (m l : ℕ) (t t′ : Tries) → t′ .small ≡ t .small → ((i : ℕ) → i < l → t′ .level i ≡ t .level i) → regions m l t′ ≡ regions m l t
 unfolding regions
 regions-same m zero t t′ s h = rw s
 regions-same m (suc l) t t′ s h = ap₂ _++_ (regions-same m l t t′ s (λ i k. h i (omega arith))) (ap (λ f. padded (entryRoom * m * 2 ^ l) (encode f)) (h l (omega arith)))

@@ -1,0 +1,118 @@
+-- Books that one store holds are answered alike, and their stores stay alike: a call that goes by the store's bytes can keep its promise for all
+-- of them at once.
+use Prim.Native.Nat.{ℕ, zero, suc, _+_, _*_, _-_, _/_, _%_, _^_, _≤_, _<_}
+use mathlib.Core.Path.{_≡_, refl, sym, ap, ap₂, _∙_, subst}
+use mathlib.Core.Logic.{_⊎_, inl, inr, ⊎-elim}
+use mathlib.Core.Bool.{Bool, true, false, cond}
+use mathlib.Core.List.{List, [], _∷_, _++_, map}
+use native.Mathlib.Omega.{arith}
+use native.Mathlib.Nat.{mod-lt}
+use lib.ListN.{length}
+use lib.Dec.{eqb, ltb}
+use borrow.Author.Tests.{ltb-true, ltb-false, eqb-true, eqb-false}
+use Rattle.buffer.specs.Lists.{any, sum, flat, count}
+use Rattle.buffer.specs.Splice.{splice}
+use Rattle.buffer.specs.Numbers.{bytesOf}
+use Rattle.rows.specs.Sizes.{rowSize, recordSize}
+use Rattle.rows.specs.Entry.{Entry, row}
+use Rattle.rows.specs.Order.{entryOrder}
+use Rattle.rows.specs.Sorted.{sorted}
+use Rattle.trie_theory.specs.Forest.{Forest}
+use Rattle.trie_theory.specs.Dimensions.{root}
+use Rattle.trie_theory.specs.SmallTrie.{added}
+use Rattle.trie_theory.specs.Encode.{encode}
+use Rattle.trie_theory.specs.Lookup.{member}
+use Rattle.trie_theory.specs.Search.{nodesEntered}
+use Rattle.entries.specs.Keys.{entryKey}
+use Rattle.entries.specs.Query.{Query, reaches}
+use Rattle.book.specs.Front.{Front, entryRoom, capacity, full}
+use Rattle.book.specs.Digits.{digit, rounds, small}
+use Rattle.book.specs.Book.{Book, Sound, held, front, fresh, put, has, formed}
+use Rattle.book.specs.Tries.{every, levelTrie, tries}
+use Rattle.book.specs.Searching.{nodesOf}
+use Rattle.book.specs.Records.{recordOf}
+use Rattle.book.specs.FromTries.{entriesOf, foundOf, entriesIn, foundIn, hasIn, searchTries, readTries}
+use Rattle.book.specs.Replies.{reply, Result, result, setupNumber, addNumber, searchNumber, readNumber}
+use Rattle.book.specs.Calls.{Call, setup, add, search, readLevel, typed}
+use Rattle.book.specs.Step.{Outcome, outcome, unless, admit, list, step}
+use Rattle.book.specs.Image.{padded, regions, storeOf, image, HoldsBook}
+use Rattle.book.proofs.Front.{within}
+use Rattle.book.proofs.Overflow.{small-length}
+use Rattle.book.proofs.Numbers.{acceptable}
+use Rattle.book.proofs.Book.{put-sound}
+use Rattle.book.proofs.Regions.{smallAt, heldAt, regions-same}
+use Rattle.book.proofs.Additions.{not-all-full}
+use Rattle.book.proofs.Writes.{add-small, add-level}
+use Rattle.book.proofs.OverTries.{looked-up}
+use Rattle.book.proofs.FromTries.{search-tries, read-tries}
+use Rattle.book.proofs.Unique.{Same, same-every}
+
+-- ---- the first empty level
+
+pub record FirstEmpty (l n : ℕ) : Type 0 where
+  pub at : ℕ
+  pub below : at < l
+  pub empty : digit at n ≡ 0
+  pub others : (i : ℕ) → i < at → digit i n ≡ 1
+
+one-digit : (i n : ℕ) → (digit i n ≡ 0 → ⊥) → digit i n ≡ 1
+unfolding digit
+one-digit i n h = let l : n / 2 ^ i % 2 < 2 = mod-lt (n / 2 ^ i) (omega arith) in omega (arith, h)
+
+-- there is one below l, or all digits below l are 1
+pub first-empty : (l n : ℕ) → FirstEmpty l n ⊎ ((i : ℕ) → i < l → digit i n ≡ 1)
+first-empty zero n = inr (λ i h. absurd (omega arith))
+first-empty (suc l) n = ⊎-elim (λ (e : FirstEmpty l n). inl (record { at = e .at; below = let h = e .below in omega arith; empty = e .empty; others = e .others })) (λ (o : (i : ℕ) → i < l → digit i n ≡ 1). go o (eqb (digit l n) 0) refl) (first-empty l n)
+  where
+    go : ((i : ℕ) → i < l → digit i n ≡ 1) → (w : Bool) → eqb (digit l n) 0 ≡ w → FirstEmpty (suc l) n ⊎ ((i : ℕ) → i < suc l → digit i n ≡ 1)
+    go o true e = inl (record { at = l; below = omega arith; empty = eqb-true (digit l n) 0 e; others = o })
+    go o false e = inr (λ i h. last i (ltb i l) refl h)
+      where
+        last : (i : ℕ) (w : Bool) → ltb i l ≡ w → i < suc l → digit i n ≡ 1
+        last i true q h = o i (ltb-true i l q)
+        last i false q h = let k = ltb-false i l q in subst (λ (x : ℕ). digit x n ≡ 1) (let z : l ≡ i = omega arith in z) (one-digit l n (eqb-false (digit l n) 0 e))
+
+-- ---- what is the same
+
+module _ (b b′ : Book) (same : Same b b′) where
+  held-same : held b ≡ held b′
+  held-same = ap (λ (f : Front). f .held) (same .front)
+
+  m-same : b .M ≡ b′ .M
+  m-same = ap (λ (f : Front). f .M) (same .front)
+
+  l-same : b .L ≡ b′ .L
+  l-same = ap (λ (f : Front). f .L) (same .front)
+
+  t-same : b .τ ≡ b′ .τ
+  t-same = ap (λ (f : Front). f .τ) (same .front)
+
+  all-same : every (b .L) (tries b) ≡ every (b′ .L) (tries b′)
+  all-same = same-every same (b .L) (omega arith) ∙ ap (λ (l : ℕ). every l (tries b′)) l-same
+
+  pub image-same : image b ≡ image b′
+  unfolding image storeOf
+  image-same =
+      ap (λ (r : List ℕ). padded 4096 (Rattle.book.specs.Front.frontBytes (front b)) ++ r) (regions-same (b .M) (b .L) (tries b′) (tries b) (same .small) (same .level))
+      ∙ ap (λ (f : Front). storeOf f (tries b′)) (same .front)
+
+  found-same : (q : Query) (answer : List ℕ) → searchTries q (b .L) (tries b) answer ≡ searchTries q (b′ .L) (tries b′) answer
+  unfolding searchTries foundIn nodesOf
+  found-same q answer =
+      ap (λ (fs : List Forest). list rowSize (map row (sorted entryOrder (flat (map (foundOf q) fs)))) (sum (nodesEntered (reaches q) root []) fs) answer) all-same
+
+  read-same : (i : ℕ) (answer : List ℕ) → readTries i (b .L) (tries b) answer ≡ readTries i (b′ .L) (tries b′) answer
+  unfolding readTries
+  read-same i answer =
+      go (ltb i (b .L)) refl
+      ∙ ap (λ (l : ℕ). list recordSize (cond (ltb i l) (map (recordOf (tries b′ .level i)) (sorted entryOrder (entriesOf (tries b′ .level i)))) []) 0 answer) l-same
+    where
+      go : (w : Bool) → ltb i (b .L) ≡ w
+          → list recordSize (cond (ltb i (b .L)) (map (recordOf (tries b .level i)) (sorted entryOrder (entriesOf (tries b .level i)))) []) 0 answer
+          ≡ list recordSize (cond (ltb i (b .L)) (map (recordOf (tries b′ .level i)) (sorted entryOrder (entriesOf (tries b′ .level i)))) []) 0 answer
+      go true e = ap (λ (f : Forest). list recordSize (cond (ltb i (b .L)) (map (recordOf f) (sorted entryOrder (entriesOf f))) []) 0 answer) (same .level i (ltb-true i (b .L) e))
+      go false e = rw e
+
+  has-same : Sound b → Sound b′ → (e : Entry) → has (b .entries) e ≡ has (b′ .entries) e
+  unfolding hasIn
+  has-same s s′ e = sym (looked-up b s e) ∙ ap (any (λ f. member root f (entryKey e))) all-same ∙ looked-up b′ s′ e
