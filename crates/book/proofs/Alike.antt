@@ -42,7 +42,7 @@ use Rattle.book.proofs.Numbers.{acceptable}
 use Rattle.book.proofs.Book.{put-sound}
 use Rattle.book.proofs.Regions.{smallAt, heldAt, regions-same}
 use Rattle.book.proofs.Additions.{not-all-full}
-use Rattle.book.proofs.Writes.{add-small, add-level}
+use Rattle.book.proofs.Writes.{zeros, add-small, add-level}
 use Rattle.book.proofs.OverTries.{looked-up}
 use Rattle.book.proofs.FromTries.{search-tries, read-tries}
 use Rattle.book.proofs.Unique.{Same, same-every}
@@ -116,3 +116,50 @@ module _ (b b′ : Book) (same : Same b b′) where
   has-same : Sound b → Sound b′ → (e : Entry) → has (b .entries) e ≡ has (b′ .entries) e
   unfolding hasIn
   has-same s s′ e = sym (looked-up b s e) ∙ ap (any (λ f. member root f (entryKey e))) all-same ∙ looked-up b′ s′ e
+
+  rounds-same : rounds (b .M) (b .entries) ≡ rounds (b′ .M) (b′ .entries)
+  unfolding rounds
+  rounds-same = ap₂ (λ (n m : ℕ). n / m) held-same m-same
+
+  few-same : length (small (b .M) (b .entries)) ≡ length (small (b′ .M) (b′ .entries))
+  few-same = small-length (b .M) (b .entries) ∙ ap₂ (λ (n m : ℕ). n % m) held-same m-same ∙ sym (small-length (b′ .M) (b′ .entries))
+
+-- ---- one entry more
+
+module _ (b b′ : Book) (same : Same b b′) (e : Entry) (s : Sound b) (s′ : Sound b′) (p : Sound (put e b)) (p′ : Sound (put e b′)) (f : formed e ≡ true) where
+  stays-same : length (small (b .M) (b .entries)) + 1 < b .M → image (put e b) ≡ image (put e b′)
+  stays-same h =
+      let h′ : length (small (b′ .M) (b′ .entries)) + 1 < b′ .M = omega (arith, few-same b b′ same, m-same b b′ same) in
+      let now : List ℕ → ℕ → Forest → ℕ → List ℕ = λ i m t n. splice (splice i smallAt (padded (entryRoom * m) (encode (added root t (entryKey e))))) heldAt (bytesOf 4 (n + 1)) in
+      sym (add-small b e s p h)
+      ∙ (λ i. now (image-same b b′ same i) (m-same b b′ same i) (same .small i) (held-same b b′ same i))
+      ∙ add-small b′ e s′ p′ h′
+
+  overflows-same : length (small (b .M) (b .entries)) + 1 ≡ b .M → FirstEmpty (b .L) (rounds (b .M) (b .entries)) → image (put e b) ≡ image (put e b′)
+  overflows-same h z =
+      let j = z .at in
+      let xs = entriesIn j (tries b) ++ (e ∷ []) in
+      let h′ : length (small (b′ .M) (b′ .entries)) + 1 ≡ b′ .M = omega (arith, few-same b b′ same, m-same b b′ same) in
+      let l′ : j < b′ .L = subst (λ (l : ℕ). j < l) (l-same b b′ same) (z .below) in
+      let r = rounds-same b b′ same in
+      let now : List ℕ → ℕ → ℕ → ℕ → List ℕ = λ i m t n.
+          splice (splice i smallAt (zeros (entryRoom * m * 2 ^ j) ++ padded (entryRoom * m * 2 ^ j) (encode (levelTrie t xs)))) heldAt (bytesOf 4 (n + 1)) in
+      let gathered : entriesIn j (tries b) ≡ entriesIn j (tries b′) = unfold entriesIn in ap (λ (fs : List Forest). flat (map entriesOf fs)) (same-every same j (let k = z .below in omega arith)) in
+      sym (add-level b e s p f j (z .below) h (z .empty) (z .others) xs (λ t. refl))
+      ∙ (λ i. now (image-same b b′ same i) (m-same b b′ same i) (t-same b b′ same i) (held-same b b′ same i))
+      ∙ add-level b′ e s′ p′ f j l′ h′ (ap (digit j) (sym r) ∙ z .empty) (λ i k. ap (digit i) (sym r) ∙ z .others i k) xs (λ t. ap (λ (l : List Entry). count t (l ++ (e ∷ []))) gathered)
+
+  pub put-same : image (put e b) ≡ image (put e b′)
+  put-same = go (ltb (length (small (b .M) (b .entries)) + 1) (b .M)) refl
+    where
+      few : length (small (b .M) (b .entries)) < b .M
+      few = subst (λ (k : ℕ). k < b .M) (sym (small-length (b .M) (b .entries))) (mod-lt (held b) (within (b .M) (b .L) (b .τ) (s .limits) .m-low))
+
+      go : (w : Bool) → ltb (length (small (b .M) (b .entries)) + 1) (b .M) ≡ w → image (put e b) ≡ image (put e b′)
+      go true q = stays-same (ltb-true (length (small (b .M) (b .entries)) + 1) (b .M) q)
+      go false q =
+          let k = ltb-false (length (small (b .M) (b .entries)) + 1) (b .M) q in
+          let h : length (small (b .M) (b .entries)) + 1 ≡ b .M = omega (arith, few) in
+          ⊎-elim (λ (z : FirstEmpty (b .L) (rounds (b .M) (b .entries))). overflows-same h z)
+          (λ (o : (i : ℕ) → i < b .L → digit i (rounds (b .M) (b .entries)) ≡ 1). absurd (not-all-full b h (omega (arith, p .room, lib.ListN.length-append (b .entries) (e ∷ []))) o))
+          (first-empty (b .L) (rounds (b .M) (b .entries)))

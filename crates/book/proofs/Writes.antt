@@ -58,6 +58,9 @@ write-lower f t t′ l n e h h′ same =
     ∙ ap (λ (s : List ℕ). top ++ s) (sym (r t′))
 
 -- empty tries are zeros
+abbrev pub zeros : ℕ → List ℕ
+zeros n = replicate n 0
+
 replicate-append : (m n : ℕ) → replicate m 0 ++ replicate n 0 ≡ replicate {A = ℕ} (m + n) 0
 replicate-append zero n = rw (zero-add n)
 replicate-append (suc m) n = rw (native.Mathlib.Nat.suc-add m n) (ap (λ (l : List ℕ). 0 ∷ l) (replicate-append m n))
