@@ -39,7 +39,7 @@ use Rattle.book.specs.Image.{padded, regions, storeOf, image, HoldsBook}
 use Rattle.book.proofs.Front.{within}
 use Rattle.book.proofs.Overflow.{small-length}
 use Rattle.book.proofs.Numbers.{acceptable}
-use Rattle.book.proofs.Book.{put-sound}
+use Rattle.book.proofs.Book.{put-sound, accepted-formed}
 use Rattle.book.proofs.Regions.{smallAt, heldAt, regions-same}
 use Rattle.book.proofs.Additions.{not-all-full}
 use Rattle.book.proofs.Writes.{zeros, add-small, add-level}
@@ -163,3 +163,55 @@ module _ (b b′ : Book) (same : Same b b′) (e : Entry) (s : Sound b) (s′ : 
           ⊎-elim (λ (z : FirstEmpty (b .L) (rounds (b .M) (b .entries))). overflows-same h z)
           (λ (o : (i : ℕ) → i < b .L → digit i (rounds (b .M) (b .entries)) ≡ 1). absurd (not-all-full b h (omega (arith, p .room, lib.ListN.length-append (b .entries) (e ∷ []))) o))
           (first-empty (b .L) (rounds (b .M) (b .entries)))
+
+-- ---- ONE CALL, ALIKE
+
+module _ (b b′ : Book) (same : Same b b′) (s : Sound b) (s′ : Sound b′) where
+  pub search-alike : (n : ℕ) (q : Query) (answer : List ℕ) → step b (search n q answer) .result ≡ step b′ (search n q answer) .result
+  search-alike n q answer = go (searchNumber n (front b) q) refl
+    where
+      number : searchNumber n (front b′) q ≡ searchNumber n (front b) q
+      number = ap (λ (f : Front). searchNumber n f q) (sym (same .front))
+
+      refused : (k : ℕ) → searchNumber n (front b) q ≡ suc k → step b (search n q answer) .result ≡ step b′ (search n q answer) .result
+      refused k e = unfold step in rw (number, e)
+
+      go : (k : ℕ) → searchNumber n (front b) q ≡ k → step b (search n q answer) .result ≡ step b′ (search n q answer) .result
+      go zero e = search-tries b s n q answer e ∙ found-same b b′ same q answer ∙ sym (search-tries b′ s′ n q answer (number ∙ e))
+      go (suc k) e = refused k e
+
+  pub read-alike : (n i : ℕ) (answer : List ℕ) → step b (readLevel n i answer) .result ≡ step b′ (readLevel n i answer) .result
+  read-alike n i answer = go (readNumber n (front b)) refl
+    where
+      number : readNumber n (front b′) ≡ readNumber n (front b)
+      number = ap (readNumber n) (sym (same .front))
+
+      refused : (k : ℕ) → readNumber n (front b) ≡ suc k → step b (readLevel n i answer) .result ≡ step b′ (readLevel n i answer) .result
+      refused k e = unfold step in rw (number, e)
+
+      go : (k : ℕ) → readNumber n (front b) ≡ k → step b (readLevel n i answer) .result ≡ step b′ (readLevel n i answer) .result
+      go zero e = read-tries b s n i answer e ∙ read-same b b′ same i answer ∙ sym (read-tries b′ s′ n i answer (number ∙ e))
+      go (suc k) e = refused k e
+
+  pub add-alike : (n : ℕ) (e : Entry) → typed (add n e) ≡ true
+      → (step b (add n e) .result ≡ step b′ (add n e) .result) × (image (step b (add n e) .book) ≡ image (step b′ (add n e) .book))
+  unfolding step
+  add-alike n e t =
+      let number : addNumber n (front b) e ≡ addNumber n (front b′) e = ap (λ (f : Front). addNumber n f e) (same .front) in
+      let there = has-same b b′ same s s′ e in
+      let g = go (addNumber n (front b) e) refl (has (b .entries) e) refl in (
+        g .0 ∙ ap₂ (λ (k : ℕ) (w : Bool). unless k [] b′ (admit w e b′) .result) number there,
+        g .1 ∙ ap₂ (λ (k : ℕ) (w : Bool). image (unless k [] b′ (admit w e b′) .book)) number there,
+      )
+    where
+      sound-put : (d : Book) → Sound d → addNumber n (front d) e ≡ 0 → has (d .entries) e ≡ false → Sound (put e d)
+      sound-put d sd z h = put-sound n d e sd (acceptable n (front d) e z) t h
+
+      go : (k : ℕ) → addNumber n (front b) e ≡ k → (w : Bool) → has (b .entries) e ≡ w
+          → (unless k [] b (admit w e b) .result ≡ unless k [] b′ (admit w e b′) .result) × (image (unless k [] b (admit w e b) .book) ≡ image (unless k [] b′ (admit w e b′) .book))
+      go zero z true h = (ap (λ (n : ℕ). result (reply 100 n 0) []) (held-same b b′ same), image-same b b′ same)
+      go zero z false h =
+          let z′ : addNumber n (front b′) e ≡ 0 = ap (λ (f : Front). addNumber n f e) (sym (same .front)) ∙ z in
+          let h′ : has (b′ .entries) e ≡ false = sym (has-same b b′ same s s′ e) ∙ h in
+          (ap (λ (n : ℕ). result (reply 0 (n + 1) 0) []) (held-same b b′ same), put-same b b′ same e s s′ (sound-put b s z h) (sound-put b′ s′ z′ h′) (accepted-formed n b e z t))
+      go (suc k) z w h = (refl, image-same b b′ same)

@@ -73,6 +73,14 @@ fresh-sound m l t e =
     let w = within m l t e in
     record { limits = e; room = mul-le-mul (w .m-low) (pow-pos l); formed = refl; once = refl }
 
+-- an acceptable entry is formed
+pub accepted-formed : (n : ℕ) (b : Book) (e : Entry) → addNumber n (front b) e ≡ 0 → typed (add n e) ≡ true → formed e ≡ true
+unfolding formed typed
+accepted-formed n b e z t =
+    let a = acceptable n (front b) e z in
+    let v = and-left (ltb (e .value) (2 ^ 64)) (all byte (e .reference)) t in
+    rw (a .path, v, a .reference) (and-right (ltb (e .value) (2 ^ 64)) (all byte (e .reference)) t)
+
 -- so is a sound book with an acceptable entry that it does not have
 pub put-sound : (n : ℕ) (b : Book) (e : Entry) → Sound b → Acceptable n (front b) e → typed (add n e) ≡ true → has (b .entries) e ≡ false
     → Sound (put e b)
