@@ -17,3 +17,4 @@ pub mod Writes
 pub mod FromTries
 pub mod Unique
 pub mod Alike
+pub mod Kept

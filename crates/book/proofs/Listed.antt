@@ -26,6 +26,15 @@ length-pick t (x ∷ xs) = go (t x) (length-pick t xs)
     go true e = ap suc e
     go false e = e
 
+pub count-most : {A : Type 0} (t : A → Bool) (xs : List A) → count t xs ≤ length xs
+unfolding count
+count-most t [] = omega arith
+count-most t (x ∷ xs) = go (t x) (count-most t xs)
+  where
+    go : (b : Bool) → count t xs ≤ length xs → cond b (suc (count t xs)) (count t xs) ≤ suc (length xs)
+    go true h = omega arith
+    go false h = omega arith
+
 pub any-count : {A : Type 0} (t : A → Bool) (xs : List A) → any t xs ≡ ltb 0 (count t xs)
 unfolding any count
 any-count t [] = refl

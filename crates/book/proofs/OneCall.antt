@@ -72,7 +72,7 @@ part-short {memory} {b} n h e = go (ltb n frontSize) refl
         (too-short n (front b) e)
 
 -- what is lent begins with the image of a book: the memory holds it
-holds-after : (n : ℕ) (memory : List ℕ) {after : List ℕ} {b : Book} → Sound b → need (b .M) (b .L) ≤ n → n ≤ length memory
+pub holds-after : (n : ℕ) (memory : List ℕ) {after : List ℕ} {b : Book} → Sound b → need (b .M) (b .L) ≤ n → n ≤ length memory
     → take n after ≡ splice (take n memory) 0 (image b) → HoldsBook after b
 unfolding image
 holds-after n memory {after} {b} s l i e =

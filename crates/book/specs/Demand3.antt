@@ -3,10 +3,14 @@
 -- buffer. And the memory holds the book's image, which is demand 2; so it does after every call, since the list may end there.
 use Prim.Native.Nat.{ℕ}
 use mathlib.Core.Path.{_≡_}
-use mathlib.Core.List.{List, _++_}
+use mathlib.Core.Bool.{Bool, true, _&&_}
+use mathlib.Core.List.{List, _∷_, _++_}
+use lib.ListN.{length}
+use lib.Dec.{leb}
+use Rattle.buffer.specs.Lists.{all}
 use Rattle.book.specs.Book.{Book, blank}
-use Rattle.book.specs.Replies.{Result}
-use Rattle.book.specs.Calls.{Call}
+use Rattle.book.specs.Replies.{Result, setupNumber}
+use Rattle.book.specs.Calls.{Call, setup, lent, typed}
 use Rattle.book.specs.Step.{answers, after}
 use Rattle.book.specs.Image.{HoldsBook}
 use Rattle.book.specs.Ran.{Ran, Begun}
@@ -35,3 +39,19 @@ abbrev pub Every-Cut : Type 0
 Every-Cut =
     (memory end : List ℕ) (xs ys : List Call) (results : List Result) →
     Ran memory (xs ++ ys) results end → Cut memory xs ys results end
+
+-- a call that can be made on a memory of this length
+abbrev pub makeable : ℕ → Call → Bool
+makeable long c = typed c && leb (lent c) long
+
+-- And there are such lists: the promises can be kept together. Every list of calls that begins with a setup to be accepted can be run
+pub record CanRun (memory : List ℕ) (calls : List Call) : Type 0 where
+  pub results : List Result
+  pub end : List ℕ
+  pub ran : Ran memory calls results end
+  pub begins : Begun calls results
+
+abbrev pub Can-Run : Type 0
+Can-Run =
+    (memory : List ℕ) (n m l t : ℕ) (calls : List Call) → setupNumber n m l t ≡ 0 → all (makeable (length memory)) (setup n m l t ∷ calls) ≡ true →
+    CanRun memory (setup n m l t ∷ calls)
