@@ -143,7 +143,7 @@ module _ (b b′ : Book) (same : Same b b′) (e : Entry) (s : Sound b) (s′ : 
       let l′ : j < b′ .L = subst (λ (l : ℕ). j < l) (l-same b b′ same) (z .below) in
       let r = rounds-same b b′ same in
       let now : List ℕ → ℕ → ℕ → ℕ → List ℕ = λ i m t n.
-          splice (splice i smallAt (zeros (entryRoom * m * 2 ^ j) ++ padded (entryRoom * m * 2 ^ j) (encode (levelTrie t xs)))) heldAt (bytesOf 4 (n + 1)) in
+      splice (splice i smallAt (zeros (entryRoom * m * 2 ^ j) ++ padded (entryRoom * m * 2 ^ j) (encode (levelTrie t xs)))) heldAt (bytesOf 4 (n + 1)) in
       let gathered : entriesIn j (tries b) ≡ entriesIn j (tries b′) = unfold entriesIn in ap (λ (fs : List Forest). flat (map entriesOf fs)) (same-every same j (let k = z .below in omega arith)) in
       sym (add-level b e s p f j (z .below) h (z .empty) (z .others) xs (λ t. refl))
       ∙ (λ i. now (image-same b b′ same i) (m-same b b′ same i) (t-same b b′ same i) (held-same b b′ same i))

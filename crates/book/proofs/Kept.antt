@@ -187,3 +187,88 @@ add-refusal b n e k z = (rw z, rw z)
 unchanged-store : {store : List ℕ} {b : Book} → HoldsBook store b → splice store 0 (image b) ≡ store
 unfolding image
 unchanged-store {store} {b} h = sym (as-held (h .holds) (image-fits b (h .sound)))
+
+-- what an addition leaves: the store of the book after it
+module _ {store : List ℕ} {b : Book} (e : Entry) (h : HoldsBook store b) (t : typed (add (length store) e) ≡ true) where
+  unfoldable pub stepped : Outcome
+  stepped = step b (add (length store) e)
+
+  unfoldable pub written : List ℕ
+  written = splice store 0 (image (stepped .book))
+
+  after-sound : Sound (stepped .book)
+  unfolding stepped
+  after-sound = step-sound b (add (length store) e) (h .sound) t
+
+  after-need : need (stepped .book .M) (stepped .book .L) ≡ need (b .M) (b .L)
+  unfolding stepped
+  after-need = let s = add-same b (length store) e in ap₂ need (s .0) (s .1)
+
+  after-long : length (image (stepped .book)) ≡ need (b .M) (b .L)
+  after-long = length-image (stepped .book) after-sound ∙ after-need
+
+  after-fits : 0 + length (image (stepped .book)) ≤ length store
+  after-fits = omega (arith, after-long, h .holds .enough)
+
+  pub after-length : length written ≡ length store
+  unfolding written
+  after-length = length-splice store 0 (image (stepped .book)) after-fits
+
+  after-holds : HoldsBook written (stepped .book)
+  unfolding written
+  after-holds =
+      let n = length store in
+      let whole : (s : List ℕ) → length s ≡ n → take n s ≡ s = λ s z. lib.Seq.take-all n s (omega arith) in
+      holds-after n store after-sound (rw after-need (h .holds .enough)) (omega arith)
+      (whole written after-length ∙ ap (λ (s : List ℕ). splice s 0 (image (stepped .book))) (sym (whole store refl)))
+
+  added : addNumber (length store) (front b) e ≡ 0 → Added store written (stepped .result .reply)
+  unfolding written stepped
+  added z =
+      let p = add-says b (length store) e z in
+      let n = need (b .M) (b .L) in
+      record {
+        number = ⊎-elim (λ x. inl x) (λ x. inr (x .0, ap (λ (d : Book). splice store 0 (image d)) (x .1) ∙ unchanged-store h)) (p .0);
+        first = p .1 ∙ sym (ap (λ (f : Front). f .held) (front-read after-holds));
+        second = p .2;
+        size = after-length;
+        beyond =
+            subst (λ (f : Front). drop (need (f .M) (f .L)) written ≡ drop (need (f .M) (f .L)) store) (sym (front-read h))
+            (drop-after store 0 (image (stepped .book)) after-fits n (omega (arith, after-long)));
+      }
+
+  pub add-kept : Adds e store written (stepped .result .reply)
+  unfolding written stepped
+  add-kept =
+      let f = front-read h in
+      record {
+        refused = λ n z.
+            (let p = add-refusal b (length store) e n (ap (λ (x : Front). addNumber (length store) x e) (sym f) ∙ z) in
+            (p .0, ap (λ (d : Book). splice store 0 (image d)) (p .1) ∙ unchanged-store h));
+        otherwise = λ z. added (ap (λ (x : Front). addNumber (length store) x e) (sym f) ∙ z);
+        ours = λ b′ h′.
+            (let a = add-alike b b′ (same-tries h h′) (h .sound) (h′ .sound) (length store) e t in
+            (ap (λ (r : Result). r .reply) (a .0), ap (splice store 0) (a .1)));
+      }
+
+-- .. and on a store that holds no book
+pub add-foreign : (e : Entry) (store : List ℕ) → ((b : Book) → HoldsBook store b → ⊥) → (r : Reply) × Adds e store store r
+add-foreign e store none = go (addNumber (length store) (frontOf store) e) refl
+  where
+    go : (k : ℕ) → addNumber (length store) (frontOf store) e ≡ k → (r : Reply) × Adds e store store r
+    go zero z = (
+      reply 100 (frontOf store .held) 0,
+      record {
+        refused = λ n q. absurd (let y : _≡_ {A = ℕ} 0 (suc n) = sym z ∙ q in omega arith);
+        otherwise = λ q. record { number = inr (refl, refl); first = refl; second = refl; size = refl; beyond = refl };
+        ours = λ b h. absurd (none b h);
+      },
+    )
+    go (suc k) z = (
+      reply (suc k) 0 0,
+      record {
+        refused = λ n q. (ap (λ (x : ℕ). reply x 0 0) (sym z ∙ q), refl);
+        otherwise = λ q. absurd (let y : _≡_ {A = ℕ} 0 (suc k) = sym q ∙ z in omega arith);
+        ours = λ b h. absurd (none b h);
+      },
+    )

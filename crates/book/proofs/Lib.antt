@@ -18,3 +18,4 @@ pub mod FromTries
 pub mod Unique
 pub mod Alike
 pub mod Kept
+pub mod CanRun

@@ -30,7 +30,7 @@ use Rattle.book.proofs.Image.{length-image, image-front}
 same-memory : (n : ℕ) (a m : List ℕ) → take n a ≡ take n m → drop n a ≡ drop n m → a ≡ m
 same-memory n a m t d = sym (take-append-drop n a) ∙ ap₂ _++_ t d ∙ take-append-drop n m
 
-need-front : (m l : ℕ) → frontSize ≤ need m l
+pub need-front : (m l : ℕ) → frontSize ≤ need m l
 unfolding need
 need-front m l = omega arith
 

@@ -123,8 +123,8 @@ module _ (n : ℕ) (f g : Forest) (sf : Trie.Sound n root f) (sg : Trie.Sound n 
       ⊎-elim
       (λ (z : f ≡ none). ⊎-elim (λ (y : g ≡ none). z ∙ sym y) (λ (t : Rooted n g). absurd (not-zeros n g t k m (empty z ∙ e))) (rooted n g sg rg))
       (λ (r : Rooted n f).
-        ⊎-elim (λ (y : g ≡ none). absurd (not-zeros n f r m k (empty′ y ∙ sym e)))
-        (λ (t : Rooted n g). encode-injective n f g rf rg (same-root n f g r t m k e)) (rooted n g sg rg))
+      ⊎-elim (λ (y : g ≡ none). absurd (not-zeros n f r m k (empty′ y ∙ sym e)))
+      (λ (t : Rooted n g). encode-injective n f g rf rg (same-root n f g r t m k e)) (rooted n g sg rg))
       (rooted n f sf rf)
     where
       empty : f ≡ none → replicate m 0 ≡ encode f ++ replicate m 0
