@@ -1,18 +1,17 @@
 -- The tries of a book with one entry more, from the tries that it had: the rule of overflow, trie by trie.
-use Prim.Native.Nat.{ℕ, zero, suc, _+_, _*_, _/_, _%_, _^_, _≤_, _<_}
-use mathlib.Core.Path.{_≡_, refl, sym, ap, ap₂, _∙_, subst}
+use Prim.Native.Nat.{ℕ, _+_, _*_, _^_, _<_}
+use mathlib.Core.Path.{_≡_, refl, sym, ap, _∙_, subst}
 use mathlib.Core.Bool.{Bool, true, not}
 use mathlib.Core.List.{List, [], _∷_, _++_, map}
 use native.Mathlib.Omega.{arith}
 use native.Mathlib.Nat.{mul-zero, mul-comm, div-lt-iff-lt-mul, mod-eq-of-lt}
-use lib.ListN.{length, take, drop}
-use Rattle.buffer.specs.Lists.{all, count, flat}
+use lib.ListN.{length}
+use Rattle.buffer.specs.Lists.{all, count}
 use Rattle.buffer.proofs.Lists.{map-append, all-test}
 use Rattle.rows.specs.Entry.{Entry, sameEntry, fitsRow}
-use Rattle.rows.specs.Order.{entryOrder}
 use Rattle.rows.specs.Sorted.{sorted}
 use Rattle.rows.proofs.Rows.{entries-decided}
-use Rattle.trie_theory.specs.Forest.{Forest, none, keys}
+use Rattle.trie_theory.specs.Forest.{none}
 use Rattle.trie_theory.specs.Dimensions.{root}
 use Rattle.trie_theory.specs.Level.{levelOf}
 use Rattle.trie_theory.specs.SmallTrie.{added, grown, smallTrie}
@@ -20,12 +19,12 @@ use Rattle.trie_theory.proofs.SmallKept.{small-last}
 use Rattle.entries.specs.Keys.{entryKey}
 use Rattle.book.specs.Digits.{digit, rounds, levelSize, level, small}
 use Rattle.book.specs.Book.{Book, Sound, put, held, formed}
-use Rattle.book.specs.Tries.{every, levelTrie, tries}
+use Rattle.book.specs.Tries.{levelTrie, tries}
 use Rattle.book.specs.Overflow.{fromHighest}
 use Rattle.book.specs.FromTries.{entriesIn}
 use Rattle.book.proofs.Digits.{begin, below}
 use Rattle.book.proofs.Overflow.{stays, overflows, ones, round-full}
-use Rattle.book.proofs.Keys.{fits-row, fits-rows}
+use Rattle.book.proofs.Keys.{fits-rows}
 use Rattle.book.proofs.Book.{all-snoc}
 use Rattle.book.proofs.Image.{all-drop}
 use Rattle.book.proofs.Listed.{count-append}

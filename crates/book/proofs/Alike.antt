@@ -1,6 +1,6 @@
 -- Books that one store holds are answered alike, and their stores stay alike: a call that goes by the store's bytes can keep its promise for all
 -- of them at once.
-use Prim.Native.Nat.{ℕ, zero, suc, _+_, _*_, _-_, _/_, _%_, _^_, _≤_, _<_}
+use Prim.Native.Nat.{ℕ, zero, suc, _+_, _*_, _/_, _%_, _^_, _<_}
 use mathlib.Core.Path.{_≡_, refl, sym, ap, ap₂, _∙_, subst}
 use mathlib.Core.Logic.{_⊎_, inl, inr, ⊎-elim}
 use mathlib.Core.Bool.{Bool, true, false, cond}
@@ -25,17 +25,17 @@ use Rattle.trie_theory.specs.Lookup.{member}
 use Rattle.trie_theory.specs.Search.{nodesEntered}
 use Rattle.entries.specs.Keys.{entryKey}
 use Rattle.entries.specs.Query.{Query, reaches}
-use Rattle.book.specs.Front.{Front, entryRoom, capacity, full}
+use Rattle.book.specs.Front.{Front, entryRoom}
 use Rattle.book.specs.Digits.{digit, rounds, small}
-use Rattle.book.specs.Book.{Book, Sound, held, front, fresh, put, has, formed}
+use Rattle.book.specs.Book.{Book, Sound, held, front, put, has, formed}
 use Rattle.book.specs.Tries.{every, levelTrie, tries}
 use Rattle.book.specs.Searching.{nodesOf}
 use Rattle.book.specs.Records.{recordOf}
 use Rattle.book.specs.FromTries.{entriesOf, foundOf, entriesIn, foundIn, hasIn, searchTries, readTries}
-use Rattle.book.specs.Replies.{reply, Result, result, setupNumber, addNumber, searchNumber, readNumber}
-use Rattle.book.specs.Calls.{Call, setup, add, search, readLevel, typed}
-use Rattle.book.specs.Step.{Outcome, outcome, unless, admit, list, step}
-use Rattle.book.specs.Image.{padded, regions, storeOf, image, HoldsBook}
+use Rattle.book.specs.Replies.{reply, result, addNumber, searchNumber, readNumber}
+use Rattle.book.specs.Calls.{add, search, readLevel, typed}
+use Rattle.book.specs.Step.{unless, admit, list, step}
+use Rattle.book.specs.Image.{padded, storeOf, image}
 use Rattle.book.proofs.Front.{within}
 use Rattle.book.proofs.Overflow.{small-length}
 use Rattle.book.proofs.Numbers.{acceptable}

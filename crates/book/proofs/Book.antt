@@ -1,30 +1,26 @@
 -- The step leaves a sound book sound.
 use Prim.Native.Nat.{ℕ, zero, suc, _+_, _*_, _-_, _^_, _<_}
-use mathlib.Core.Path.{_≡_, refl, sym, ap, _∙_, subst}
-use mathlib.Core.Bool.{Bool, true, false, not, cond, _&&_, _||_, true≢false}
-use mathlib.Core.List.{List, [], _∷_, _++_, map}
+use mathlib.Core.Path.{_≡_, refl, sym, _∙_, subst}
+use mathlib.Core.Bool.{Bool, true, false, not, _||_, true≢false}
+use mathlib.Core.List.{List, [], _∷_, _++_}
 use native.Mathlib.Omega.{arith}
 use native.Mathlib.Nat.{mul-le-mul}
 use lib.Pow.{pow-pos}
-use lib.ListN.{length, length-append}
-use lib.Dec.{eqb, ltb}
+use lib.ListN.{length-append}
+use lib.Dec.{ltb}
 use borrow.Author.Tests.{eqb-false, not-true}
-use Rattle.buffer.specs.Lists.{all, any, flat}
-use Rattle.buffer.specs.Splice.{splice}
+use Rattle.buffer.specs.Lists.{all, any}
 use Rattle.buffer.specs.Numbers.{byte}
-use Rattle.buffer.proofs.Tests.{and-left, and-right, and-both, or-left-false, or-right-false, or-false}
+use Rattle.buffer.proofs.Tests.{and-left, and-right, or-left-false, or-right-false, or-false}
 use Rattle.buffer.proofs.Lists.{all-tested, all-test, all-append, any-append}
 use Rattle.buffer.specs.Lists.{nil, cons}
-use Rattle.rows.specs.Sizes.{rowSize, recordSize}
-use Rattle.rows.specs.Entry.{Entry, row, sameEntry}
+use Rattle.rows.specs.Entry.{Entry, sameEntry}
 use Rattle.rows.proofs.Rows.{same-entry}
 use Rattle.entries.specs.Query.{Query}
-use Rattle.book.specs.Front.{Front, inLimits, need, capacity, full}
+use Rattle.book.specs.Front.{inLimits, capacity, full}
 use Rattle.book.specs.Book.{Book, Sound, held, front, fresh, put, has, distinct, formed}
 use Rattle.book.specs.Replies.{reply, result, setupNumber, addNumber, searchNumber, readNumber}
 use Rattle.book.specs.Calls.{Call, setup, add, search, readLevel, typed}
-use Rattle.book.specs.Searching.{matching, nodes}
-use Rattle.book.specs.Records.{records}
 use Rattle.book.specs.Step.{Outcome, outcome, unless, admit, step}
 use Rattle.book.proofs.Front.{within}
 use Rattle.book.proofs.Numbers.{Acceptable, acceptable, setup-fits}

@@ -1,7 +1,7 @@
 -- Demand 3 speaks of something: every list of calls that begins with a setup to be accepted can be run, each call keeping its promise.
-use Prim.Native.Nat.{ℕ, zero, suc, _+_, _≤_, _<_}
+use Prim.Native.Nat.{ℕ, zero, suc, _≤_, _<_}
 use mathlib.Core.Path.{_≡_, refl, sym, ap, _∙_, subst}
-use mathlib.Core.Bool.{Bool, true, false, _&&_}
+use mathlib.Core.Bool.{Bool, true, false}
 use mathlib.Core.List.{List, [], _∷_, _++_}
 use native.Mathlib.Omega.{arith}
 use lib.ListN.{length, take, drop, length-append, length-drop}
@@ -15,14 +15,14 @@ use Rattle.buffer.proofs.Splice.{length-splice}
 use Rattle.rows.specs.Entry.{Entry}
 use Rattle.entries.specs.Query.{Query}
 use Rattle.book.specs.Front.{Front, frontSize, frontOf, need}
-use Rattle.book.specs.Book.{Book, Sound, blank, front, fresh}
+use Rattle.book.specs.Book.{Book, blank, front, fresh}
 use Rattle.book.specs.Replies.{reply, Result, result, setupNumber, searchNumber, readNumber}
 use Rattle.book.specs.Calls.{Call, setup, add, search, readLevel, lent, typed}
 use Rattle.book.specs.Step.{step}
 use Rattle.book.specs.Image.{image, HoldsBook}
 use Rattle.book.specs.Promises.{Promise}
-use Rattle.book.specs.Ran.{Did, Ran, done, next, Begun, begun}
-use Rattle.book.specs.Demand3.{makeable, CanRun, Can-Run}
+use Rattle.book.specs.Ran.{Did, Ran, done, next, begun}
+use Rattle.book.specs.Demand3.{makeable, Can-Run}
 use Rattle.book.proofs.Front.{front-back}
 use Rattle.book.proofs.Numbers.{setup-fits}
 use Rattle.book.proofs.Book.{fresh-sound}

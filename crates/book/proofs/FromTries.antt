@@ -1,25 +1,24 @@
 -- The answers from the tries of a book are the book's.
-use Prim.Native.Nat.{ℕ, _≤_, _<_}
-use mathlib.Core.Path.{_≡_, refl, sym, ap, _∙_}
+use Prim.Native.Nat.{ℕ}
+use mathlib.Core.Path.{_≡_, refl, ap}
 use mathlib.Core.Bool.{Bool, true, false, cond}
 use mathlib.Core.List.{List, [], map}
-use lib.ListN.{length}
 use lib.Dec.{ltb}
 use borrow.Author.Tests.{ltb-true}
-use Rattle.rows.specs.Sizes.{rowSize, recordSize}
-use Rattle.rows.specs.Entry.{Entry, row}
+use Rattle.rows.specs.Sizes.{recordSize}
+use Rattle.rows.specs.Entry.{Entry}
 use Rattle.rows.specs.Order.{entryOrder}
 use Rattle.rows.specs.Sorted.{sorted}
 use Rattle.entries.specs.Query.{Query}
-use Rattle.book.specs.Book.{Book, Sound, front, has}
+use Rattle.book.specs.Book.{Book, Sound, front}
 use Rattle.book.specs.Digits.{level}
-use Rattle.book.specs.Tries.{levelTrie, tries}
-use Rattle.book.specs.Searching.{nodes, nodesOf, matching}
+use Rattle.book.specs.Tries.{tries}
+use Rattle.book.specs.Searching.{nodes}
 use Rattle.book.specs.Records.{recordOf, levelRead, records}
-use Rattle.book.specs.Replies.{Result, addNumber, searchNumber, readNumber}
+use Rattle.book.specs.Replies.{addNumber, searchNumber, readNumber}
 use Rattle.book.specs.Calls.{search, readLevel, add}
-use Rattle.book.specs.Step.{Outcome, list, outcome, unless, admit, step}
-use Rattle.book.specs.FromTries.{entriesOf, foundIn, hasIn, searchTries, readTries}
+use Rattle.book.specs.Step.{list, admit, step}
+use Rattle.book.specs.FromTries.{entriesOf, hasIn, searchTries, readTries}
 use Rattle.book.proofs.OverTries.{rows-found, looked-up}
 use Rattle.book.proofs.Records.{records-read}
 

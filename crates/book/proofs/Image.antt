@@ -1,21 +1,19 @@
 -- The image of a book fills the need, begins with its numbers, and has each trie in its place: a trie takes at most 245 bytes for each of its
 -- entries, and has 1,024.
-use Prim.Native.Nat.{ℕ, zero, suc, _+_, _*_, _-_, _^_, _≤_, _<_}
-use mathlib.Core.Path.{_≡_, refl, sym, ap, _∙_, subst}
+use Prim.Native.Nat.{ℕ, zero, suc, _*_, _-_, _^_, _≤_, _<_}
+use mathlib.Core.Path.{_≡_, sym, ap, _∙_, subst}
 use mathlib.Core.Bool.{Bool, true}
-use mathlib.Core.List.{List, [], _++_, append-assoc, map}
+use mathlib.Core.List.{List, _++_, append-assoc, map}
 use native.Mathlib.Omega.{arith}
 use native.Mathlib.Nat.{mul-assoc, mul-one, pow-suc, pow-zero, mod-lt, mul-le-mul-left}
 use lib.ListN.{length, take, drop, replicate, length-append, length-replicate, length-map}
-use lib.Seq.{take-at, take-take}
+use lib.Seq.{take-at}
 use Rattle.buffer.specs.Lists.{all}
-use Rattle.buffer.specs.Splice.{splice, region}
 use Rattle.buffer.proofs.Lists.{all-tested, all-test, all-left, all-right}
 use Rattle.rows.specs.Entry.{Entry}
 use Rattle.rows.specs.Order.{entryOrder}
 use Rattle.rows.specs.Sorted.{sorted}
 use Rattle.rows.proofs.Sorted.{all-sorted, length-sorted}
-use Rattle.trie_theory.specs.Forest.{Forest}
 use Rattle.trie_theory.specs.Encode.{encode}
 use Rattle.trie_theory.specs.SmallTrie.{smallTrie}
 use Rattle.trie_theory.specs.TrieOf.{TrieOf}
@@ -24,8 +22,8 @@ use Rattle.entries.specs.Keys.{entryKey}
 use Rattle.book.specs.Front.{Front, frontSize, frontRoom, entryRoom, frontBytes, need}
 use Rattle.book.specs.Digits.{digit, rounds, levelSize, levelStart, level, small}
 use Rattle.book.specs.Book.{Book, Sound, front, formed}
-use Rattle.book.specs.Tries.{Tries, dimensions, levelTrie, tries}
-use Rattle.book.specs.Image.{padded, regions, storeOf, image, Holds}
+use Rattle.book.specs.Tries.{Tries, levelTrie, tries}
+use Rattle.book.specs.Image.{padded, regions, storeOf, image}
 use Rattle.book.proofs.Front.{length-front, within}
 use Rattle.book.proofs.Digits.{level-length}
 use Rattle.book.proofs.Overflow.{small-length}

@@ -1,7 +1,7 @@
 -- Demand 3 in its own words, from demand 3.
-use Prim.Native.Nat.{ℕ, zero, suc, _+_, _-_, _*_, _^_, _≤_, _<_}
+use Prim.Native.Nat.{ℕ, zero, suc, _-_, _*_, _^_, _≤_, _<_}
 use mathlib.Core.Path.{_≡_, refl, sym, ap, _∙_, subst}
-use mathlib.Core.Bool.{Bool, true, false, cond, _&&_}
+use mathlib.Core.Bool.{Bool, true, false}
 use mathlib.Core.List.{List, [], _∷_, map}
 use native.Mathlib.Omega.{arith}
 use lib.ListN.{length, length-map}
@@ -19,16 +19,15 @@ use Rattle.rows.proofs.Rows.{entry-order}
 use Rattle.entries.specs.Query.{Query, matchesEntry}
 use Rattle.book.specs.Front.{need, capacity, full}
 use Rattle.book.specs.Digits.{level, levelSize, levelStart}
-use Rattle.book.specs.Book.{Book, Sound, blank, fresh, put, held, front, has, distinct}
-use Rattle.book.specs.Tries.{levelTrie}
+use Rattle.book.specs.Book.{Book, blank, fresh, held, front, has, distinct}
 use Rattle.book.specs.Searching.{matching, nodes}
-use Rattle.book.specs.Records.{recordOf, levelRead, records}
+use Rattle.book.specs.Records.{levelRead, records}
 use Rattle.book.specs.Replies.{Reply, reply, Result, result, setupNumber, addNumber, searchNumber, readNumber}
 use Rattle.book.specs.Calls.{Call, setup, add, search, readLevel}
 use Rattle.book.specs.Step.{Outcome, outcome, unless, admit, fill, list, step, answers, after}
 use Rattle.book.specs.Image.{HoldsBook}
-use Rattle.book.specs.Ran.{Did, Ran, Begun}
-use Rattle.book.specs.Accepted.{noted, notedFrom, accepted}
+use Rattle.book.specs.Ran.{Did}
+use Rattle.book.specs.Accepted.{noted, notedFrom}
 use Rattle.book.specs.InWords.{Precisely, Lists, Reads, InWords, Demand-3-In-Words}
 use Rattle.book.proofs.Front.{long-enough}
 use Rattle.book.proofs.Numbers.{search-none, read-none, only-full, add-below}

@@ -1,16 +1,16 @@
 -- The promises can be kept together: on a store that holds a book by what the book's step gives, and on a store that holds none by an answer that
 -- lists nothing.
-use Prim.Native.Nat.{ℕ, zero, suc, _+_, _*_, _≤_, _<_}
+use Prim.Native.Nat.{ℕ, zero, suc, _+_, _*_, _≤_}
 use mathlib.Core.Path.{_≡_, refl, sym, ap, ap₂, _∙_, subst}
 use mathlib.Core.Logic.{_⊎_, inl, inr, ⊎-elim}
 use mathlib.Core.Bool.{Bool, true, false, cond}
-use mathlib.Core.List.{List, [], _∷_, _++_, map}
+use mathlib.Core.List.{List, [], _∷_, map}
 use native.Mathlib.Omega.{arith}
 use native.Mathlib.Nat.{zero-mul}
 use lib.ListN.{length, take, drop, length-map, length-append, length-take, length-drop}
 use lib.Dec.{ltb}
 use borrow.Author.Tests.{ltb-true, ltb-false}
-use Rattle.buffer.specs.Lists.{all, pick, flat, count}
+use Rattle.buffer.specs.Lists.{all, pick, flat}
 use Rattle.buffer.specs.Splice.{splice}
 use Rattle.buffer.proofs.Lists.{all-tested, all-test, all-pick, all-imp}
 use Rattle.buffer.proofs.Splice.{length-splice, drop-after}
@@ -22,8 +22,8 @@ use Rattle.rows.proofs.Sorted.{all-sorted, length-sorted}
 use Rattle.rows.proofs.Rows.{length-row, length-side-by-side}
 use Rattle.entries.specs.Query.{Query, matchesEntry}
 use Rattle.book.specs.Front.{Front, frontOf, need}
-use Rattle.book.specs.Digits.{level, levelSize, levelStart}
-use Rattle.book.specs.Book.{Book, Sound, held, front, put, has}
+use Rattle.book.specs.Digits.{level}
+use Rattle.book.specs.Book.{Book, Sound, held, front, has}
 use Rattle.book.specs.Tries.{levelTrie}
 use Rattle.book.specs.Searching.{matching}
 use Rattle.book.specs.Records.{recordOf, levelRead, records}

@@ -1,16 +1,16 @@
 -- Formed entries: their rows have room, their keys are those of entries, and a key gives its entry back.
-use Prim.Native.Nat.{ℕ, zero, suc, _+_, _-_, _^_, _≤_, _<_}
-use mathlib.Core.Path.{_≡_, refl, sym, ap, _∙_}
+use Prim.Native.Nat.{ℕ, zero, suc, _-_, _^_, _≤_, _<_}
+use mathlib.Core.Path.{_≡_, refl}
 use mathlib.Core.Bool.{Bool, true, false, not, cond, _&&_, _||_}
-use mathlib.Core.List.{List, [], _∷_, _++_, append-nil, map}
+use mathlib.Core.List.{List, [], _∷_, _++_, map}
 use native.Mathlib.Omega.{arith}
-use lib.ListN.{length, take, getD, length-append}
+use lib.ListN.{length, take, length-append}
 use lib.Dec.{eqb, leb, ltb}
-use borrow.Author.Tests.{eqb-true, eq-eqb, leb-true, le-leb, ltb-true, ltb-false, lt-ltb, eqb-false}
+use borrow.Author.Tests.{eqb-true, eq-eqb, leb-true, le-leb, ltb-true, ltb-false, lt-ltb}
 use Rattle.buffer.specs.Lists.{All, nil, cons, none, all}
 use lib.Seq.{take-at}
-use Rattle.buffer.specs.Numbers.{bytesOf, number, byte}
-use Rattle.buffer.proofs.Tests.{and-left, and-right, and-both, bool-ext, not-both}
+use Rattle.buffer.specs.Numbers.{bytesOf, byte}
+use Rattle.buffer.proofs.Tests.{and-left, and-right, not-both}
 use Rattle.buffer.proofs.Lists.{all-imp, all-append, all-tested, all-test, all-map}
 use Rattle.buffer.proofs.Digits.{length-bytesOf, number-bytesOf, bytesOf-bytes}
 use Rattle.matcher.specs.Bytes.{slash, star, pathLimit, labelByte}
@@ -20,8 +20,6 @@ use Rattle.matcher.proofs.Forms.{fine-path}
 use Rattle.matcher.specs.declared.form.Form.the-variants.{Fine, TooLong, Malformed}
 use Rattle.rows.specs.Sizes.{valueSize, referenceSize}
 use Rattle.rows.specs.Entry.{Entry, fitsRow}
-use Rattle.trie_theory.specs.Forest.{Key}
-use Rattle.trie_theory.specs.Strings.{at}
 use Rattle.trie_theory.specs.Entries as Dimensions
 use Rattle.trie_theory.specs.Entries.{complete, isValue, isPath, dims}
 use Rattle.entries.specs.Keys.{entryKey}

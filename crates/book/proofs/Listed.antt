@@ -1,5 +1,5 @@
 -- Which entries stand in a list, and how often: sorting keeps it, picking keeps what passes, a stretch has none more often.
-use Prim.Native.Nat.{ℕ, zero, suc, _+_, _≤_, _<_}
+use Prim.Native.Nat.{ℕ, suc, _+_, _≤_}
 use mathlib.Core.Path.{_≡_, refl, sym, ap, _∙_}
 use mathlib.Core.Bool.{Bool, true, false, not, cond, _&&_, _||_}
 use mathlib.Core.List.{List, [], _∷_, _++_}
@@ -7,7 +7,7 @@ use native.Mathlib.Omega.{arith}
 use lib.ListN.{length, take, drop, take-append-drop}
 use lib.Dec.{ltb}
 use borrow.Author.Tests.{lt-ltb, le-ltb, not-true}
-use Rattle.buffer.specs.Lists.{any, pick, sum, count}
+use Rattle.buffer.specs.Lists.{any, pick, count}
 use Rattle.buffer.proofs.Tests.{and-left, and-right, and-both}
 use Rattle.buffer.proofs.Sums.{count-sum, sum-append}
 use Rattle.rows.specs.Entry.{Entry, sameEntry}

@@ -14,12 +14,12 @@ use borrow.Author.Tests.{ltb-true, ltb-false}
 use Rattle.buffer.specs.Splice.{splice}
 use Rattle.rows.specs.Entry.{Entry}
 use Rattle.entries.specs.Query.{Query}
-use Rattle.book.specs.Front.{Front, frontSize, frontBytes, frontOf, need, noStore}
+use Rattle.book.specs.Front.{frontSize, frontBytes, frontOf, need, noStore}
 use Rattle.book.specs.Book.{Book, Sound, front}
-use Rattle.book.specs.Replies.{Reply, reply, Result, result, setupNumber, addNumber, searchNumber, readNumber}
+use Rattle.book.specs.Replies.{Reply, reply, Result, result, setupNumber}
 use Rattle.book.specs.Calls.{Call, setup, add, search, readLevel, typed}
 use Rattle.book.specs.Step.{step}
-use Rattle.book.specs.Image.{image, Holds, HoldsBook}
+use Rattle.book.specs.Image.{image, HoldsBook}
 use Rattle.book.specs.Ran.{Did}
 use Rattle.book.proofs.Front.{too-short, no-front, front-back}
 use Rattle.book.proofs.Numbers.{setup-fits, add-short, search-short, read-short}

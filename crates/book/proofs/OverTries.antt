@@ -1,18 +1,18 @@
 -- From the tries that a store holds to the book: what they have, what a search finds in them, and what is looked up in them. A level forgets
 -- the sequence of its entries, so each law counts.
-use Prim.Native.Nat.{ℕ, zero, suc, _+_, _*_, _^_, _≤_, _<_}
+use Prim.Native.Nat.{ℕ, zero, suc, _+_, _<_}
 use mathlib.Core.Path.{_≡_, refl, sym, ap, ap₂, _∙_, subst}
 use mathlib.Core.Bool.{Bool, true, false, not, cond, _&&_, _||_}
 use mathlib.Core.List.{List, [], _∷_, _++_, map}
 use native.Mathlib.Omega.{arith}
 use lib.ListN.{length}
-use lib.Dec.{eqb, ltb}
+use lib.Dec.{eqb}
 use borrow.Author.Tests.{eqb-true, eq-eqb}
 use Rattle.trie_theory.specs.Encode.{Twenty}
 use Rattle.buffer.specs.Lists.{All, nil, cons, all, any, pick, sum, count, flat, same}
 use Rattle.buffer.specs.Numbers.{byte}
-use Rattle.buffer.proofs.Tests.{and-left, and-right, and-both, bool-ext, not-both}
-use Rattle.buffer.proofs.Lists.{all-imp, all-tested, all-test, all-map, any-append, bytes-true, bytes-refl, strings-true, strings-refl}
+use Rattle.buffer.proofs.Tests.{and-left, and-right, and-both, bool-ext}
+use Rattle.buffer.proofs.Lists.{all-imp, all-tested, all-test, any-append, bytes-true, bytes-refl, strings-true, strings-refl}
 use Rattle.buffer.proofs.Sums.{count-sum, sum-append, sum-map, sum-equal}
 use Rattle.rows.specs.Entry.{Entry, sameEntry, fitsRow}
 use Rattle.rows.specs.Order.{entryOrder}
@@ -33,14 +33,14 @@ use Rattle.entries.proofs.Branch.{wants-entry}
 use Rattle.entries.proofs.Found.{Valued, found-keys}
 use Rattle.book.specs.Digits.{level, small}
 use Rattle.book.specs.Book.{Book, Sound, has, formed}
-use Rattle.book.specs.Tries.{Tries, every, tries}
+use Rattle.book.specs.Tries.{every, tries}
 use Rattle.book.specs.Searching.{matching, nodesOf, nodes}
 use Rattle.book.specs.InWords.{branches}
 use Rattle.entries.proofs.Entered.{entered-exactly}
 use Rattle.book.specs.Overflow.{fromHighest}
 use Rattle.book.specs.FromTries.{keyEntry, entriesOf, foundOf, entriesIn, foundIn, hasIn}
 use Rattle.book.proofs.Digits.{levels-whole}
-use Rattle.book.proofs.Keys.{as-formed, entry-key, keys-entries, fits-rows, key-entry}
+use Rattle.book.proofs.Keys.{as-formed, keys-entries, fits-rows, key-entry}
 use Rattle.book.proofs.Image.{level-formed, small-formed, small-trie-of, level-trie-of}
 use Rattle.book.proofs.Listed.{count-append}
 

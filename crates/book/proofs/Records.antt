@@ -1,23 +1,21 @@
 -- Records of a level read back: 860 bytes each, and made from the level's trie alone.
-use Prim.Native.Nat.{ℕ, suc, _+_, _*_, _-_, _≤_, _<_}
+use Prim.Native.Nat.{ℕ, _+_, _*_, _-_, _≤_, _<_}
 use mathlib.Core.Path.{_≡_, refl, sym, ap, _∙_, subst}
 use mathlib.Core.Bool.{true, not}
-use mathlib.Core.List.{List, [], _∷_, _++_, map}
+use mathlib.Core.List.{List, [], _∷_, map}
 use native.Mathlib.Omega.{arith}
 use lib.ListN.{length, replicate, length-append, length-replicate}
 use borrow.Author.Tests.{lt-ltb}
 use Rattle.buffer.specs.Lists.{all, flat}
 use Rattle.buffer.proofs.Lists.{all-tested, all-test, In, at-head, later, any-in}
-use Rattle.rows.specs.Sizes.{rowSize, recordSize, nodeLimit}
+use Rattle.rows.specs.Sizes.{recordSize, nodeLimit}
 use Rattle.rows.specs.Entry.{Entry, row, sameEntry, fitsRow}
 use Rattle.rows.specs.Order.{entryOrder}
 use Rattle.rows.specs.Sorted.{sorted}
 use Rattle.rows.proofs.Rows.{length-row, entries-decided, same-entry}
-use Rattle.trie_theory.specs.Forest.{Forest, keys}
 use Rattle.trie_theory.specs.Walk.{Step, walk, route}
 use Rattle.trie_theory.specs.Dimensions.{root}
 use Rattle.trie_theory.proofs.LevelWalk.{level-walk}
-use Rattle.trie_theory.specs.Size.{height}
 use Rattle.trie_theory.proofs.Walk.{walk-height}
 use Rattle.trie_theory.proofs.TrieOf.{figures}
 use Rattle.entries.specs.Keys.{entryKey}
@@ -26,7 +24,7 @@ use Rattle.book.specs.Book.{Book, Sound, formed, has}
 use Rattle.book.specs.Tries.{dimensions, levelTrie, tries}
 use Rattle.book.specs.FromTries.{entriesOf}
 use Rattle.book.specs.Records.{stepBytes, walkBytes, recordOf, levelRead, records}
-use Rattle.book.proofs.Keys.{fits-row, fits-rows}
+use Rattle.book.proofs.Keys.{fits-rows}
 use Rattle.book.proofs.Image.{level-formed, level-trie-of}
 use Rattle.book.proofs.Listed.{has-sorted}
 use Rattle.book.proofs.OverTries.{level-for, keys-count, count-none, none-count}

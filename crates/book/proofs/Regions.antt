@@ -1,7 +1,7 @@
 -- Where a trie lies in a store, what is read there, and what a write there makes of the store.
 use Prim.Native.Nat.{ℕ, zero, suc, _+_, _*_, _-_, _^_, _≤_, _<_}
-use mathlib.Core.Path.{_≡_, refl, sym, ap, ap₂, _∙_, subst}
-use mathlib.Core.List.{List, [], _∷_, _++_, append-assoc, append-nil}
+use mathlib.Core.Path.{_≡_, refl, sym, ap, ap₂, _∙_}
+use mathlib.Core.List.{List, [], _++_, append-assoc, append-nil}
 use native.Mathlib.Omega.{arith}
 use native.Mathlib.Nat.{zero-add, add-zero, add-suc, mul-assoc, mul-le-mul-left, pow-suc}
 use lib.Pow.{pow-pos, pow-mono}
@@ -15,7 +15,6 @@ use Rattle.trie_theory.specs.Encode.{encode}
 use Rattle.book.specs.Front.{Front, frontSize, frontRoom, entryRoom, frontBytes, need}
 use Rattle.book.specs.Tries.{Tries}
 use Rattle.book.specs.Image.{padded, regions, storeOf, Holds}
-use Rattle.book.proofs.Front.{length-front}
 use Rattle.book.proofs.Image.{Fit, length-padded, length-regions, length-store, length-top}
 
 -- ---- lists in three parts

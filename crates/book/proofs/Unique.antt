@@ -1,9 +1,9 @@
 -- The bytes of a store give its numbers and tries back: books that one store holds have the same numbers and the same tries.
-use Prim.Native.Nat.{ℕ, zero, suc, _+_, _*_, _-_, _^_, _≤_, _<_}
+use Prim.Native.Nat.{ℕ, zero, suc, _*_, _-_, _^_, _≤_, _<_}
 use mathlib.Core.Path.{_≡_, refl, sym, ap, ap₂, _∙_, subst}
 use mathlib.Core.Logic.{_⊎_, inl, inr, ⊎-elim}
-use mathlib.Core.Bool.{Bool, true, false, _&&_}
-use mathlib.Core.List.{List, [], _∷_, _++_, append-assoc, append-nil, map}
+use mathlib.Core.Bool.{true}
+use mathlib.Core.List.{List, [], _∷_, _++_, append-nil, map}
 use native.Mathlib.Omega.{arith}
 use native.Mathlib.Nat.{zero-mul}
 use lib.ListN.{length, replicate, length-append}
@@ -22,11 +22,11 @@ use Rattle.trie_theory.specs.Sound.{Wide}
 use Rattle.trie_theory.specs.Encode.{suffixBytes, nodeBytes, encode, Twenty, Regular}
 use Rattle.trie_theory.proofs.Encode.{sound-regular, node-parts, encode-injective}
 use Rattle.rows.specs.Entry.{Entry}
-use Rattle.book.specs.Front.{Front, entryRoom, frontOf, need}
+use Rattle.book.specs.Front.{Front, entryRoom}
 use Rattle.book.specs.Book.{Book, Sound, front}
-use Rattle.book.specs.Tries.{Tries, every, tries}
-use Rattle.book.specs.Image.{padded, Holds, HoldsBook}
-use Rattle.book.proofs.Image.{Fit, image-fits}
+use Rattle.book.specs.Tries.{every, tries}
+use Rattle.book.specs.Image.{padded, HoldsBook}
+use Rattle.book.proofs.Image.{image-fits}
 use Rattle.book.proofs.OneCall.{front-read}
 use Rattle.book.proofs.Regions.{holds-small, holds-level, smallAt, levelAt}
 use Rattle.book.proofs.OverTries.{TrieFor, small-for, level-for}

@@ -1,19 +1,18 @@
 -- What an addition has to write: the store of the book with one entry more, from the store of the book.
 use Prim.Native.Nat.{ℕ, zero, suc, _+_, _*_, _-_, _^_, _≤_, _<_}
-use mathlib.Core.Path.{_≡_, refl, sym, ap, ap₂, _∙_, subst}
+use mathlib.Core.Path.{_≡_, refl, sym, ap, ap₂, _∙_}
 use mathlib.Core.Bool.{Bool, true}
-use mathlib.Core.List.{List, [], _∷_, _++_, append-assoc, map}
+use mathlib.Core.List.{List, [], _∷_, _++_}
 use native.Mathlib.Omega.{arith}
 use native.Mathlib.Nat.{zero-add, mul-assoc, mul-one, pow-suc, pow-zero}
-use lib.ListN.{length, take, drop, replicate, length-append, length-replicate}
+use lib.ListN.{length, take, replicate, length-append}
 use lib.Seq.{take-at}
-use Rattle.buffer.specs.Lists.{count, flat}
+use Rattle.buffer.specs.Lists.{count}
 use Rattle.buffer.specs.Numbers.{bytesOf}
-use Rattle.buffer.specs.Splice.{splice, region}
-use Rattle.buffer.proofs.Splice.{splice-is, splice-over, length-splice, take-splice, splice-self}
-use Rattle.buffer.proofs.Digits.{length-bytesOf}
+use Rattle.buffer.specs.Splice.{splice}
+use Rattle.buffer.proofs.Splice.{splice-is, splice-over, length-splice, splice-self}
 use Rattle.rows.specs.Entry.{Entry}
-use Rattle.trie_theory.specs.Forest.{Forest, none, keys}
+use Rattle.trie_theory.specs.Forest.{Forest, none}
 use Rattle.trie_theory.specs.Dimensions.{root}
 use Rattle.trie_theory.specs.SmallTrie.{added}
 use Rattle.trie_theory.specs.Encode.{encode}
@@ -21,10 +20,10 @@ use Rattle.entries.specs.Keys.{entryKey}
 use Rattle.book.specs.Front.{Front, frontRoom, entryRoom, frontBytes, need}
 use Rattle.book.specs.Digits.{digit, rounds, small}
 use Rattle.book.specs.Book.{Book, Sound, held, front, put, formed}
-use Rattle.book.specs.Tries.{Tries, every, levelTrie, tries}
+use Rattle.book.specs.Tries.{Tries, levelTrie, tries}
 use Rattle.book.specs.FromTries.{entriesIn}
-use Rattle.book.specs.Image.{padded, regions, storeOf, image, Holds, HoldsBook}
-use Rattle.book.proofs.Image.{Fit, length-padded, length-regions, length-store, length-top, image-fits}
+use Rattle.book.specs.Image.{padded, regions, storeOf, image, Holds}
+use Rattle.book.proofs.Image.{Fit, length-regions, length-top, image-fits}
 use Rattle.book.proofs.Regions.{write-through, splice-mid, above, above-same, regions-above, smallAt, heldAt, holding, write-small, write-held}
 use Rattle.book.proofs.Additions.{small-grows, levels-stay, small-emptied, lower-emptied, higher-stay, level-built}
 

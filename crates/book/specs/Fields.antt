@@ -8,7 +8,7 @@ use Rattle.matcher.specs.Reach.{goesOn}
 use Rattle.matcher.specs.Worked.{decided, p5, p6, p7, p8, p9, p10}
 use Rattle.trie_theory.specs.Walk.{Step}
 use Rattle.trie_theory.specs.Worked.{Line, line, positions, nine, k4, k8, k9, way}
-use Rattle.entries.specs.Query.{Query, valueReach}
+use Rattle.entries.specs.Query.{valueReach}
 use Rattle.book.specs.Computing.{of-a-book}
 
 -- yes is 1, no is 0

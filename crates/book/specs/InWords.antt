@@ -2,7 +2,7 @@
 -- proofs/InWords.antt). `accepted` is told from the calls and the numbers that came back.
 use Prim.Native.Nat.{ℕ, _-_, _*_, _^_, _≤_, _<_}
 use mathlib.Core.Path.{_≡_}
-use mathlib.Core.Bool.{Bool, true, false, _&&_}
+use mathlib.Core.Bool.{Bool, true, _&&_}
 use mathlib.Core.List.{List, [], map}
 use lib.ListN.{length}
 use Rattle.buffer.specs.Lists.{flat, count, sum}

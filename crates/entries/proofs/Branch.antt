@@ -1,18 +1,18 @@
 -- The test of a branch decides what document 01 says, a matching key is never passed over, and whole keys match as their entries do.
 -- Assumes nothing.
 use Prim.Native.Nat.{ℕ, zero, suc, _+_, _*_, _-_, _^_, _≤_, _<_}
-use mathlib.Core.Path.{_≡_, refl, sym, ap, _∙_, subst}
+use mathlib.Core.Path.{_≡_, refl, sym, ap, _∙_}
 use mathlib.Core.Bool.{Bool, true, false, cond, _&&_}
 use mathlib.Core.List.{List, [], _∷_, _++_, append-assoc, append-nil}
 use native.Mathlib.Omega.{arith}
 use native.Mathlib.Nat.{zero-mul, pow-suc, one-le-pow, zero-lt-suc}
 use lib.ListN.{length, drop, replicate, length-append, length-replicate}
 use lib.Dec.{eqb, leb}
-use borrow.Author.Tests.{eqb-true, eq-eqb, leb-true, le-leb}
+use borrow.Author.Tests.{leb-true, le-leb}
 use Rattle.buffer.specs.Lists.{all}
 use Rattle.buffer.specs.Numbers.{bytesOf, number, byte}
 use Rattle.buffer.proofs.Tests.{and-left, and-right, and-both, bool-ext, not-both}
-use Rattle.buffer.proofs.Lists.{all-tested, all-test, all-append, all-left, all-right}
+use Rattle.buffer.proofs.Lists.{all-tested, all-test, all-append, all-right}
 use Rattle.buffer.proofs.Digits.{length-bytesOf, number-bytesOf, number-append, number-below, bytesOf-bytes, bytesOf-number}
 use Rattle.matcher.specs.Bytes.{endByte}
 use Rattle.matcher.specs.Form.{pathForm, isFine}
@@ -27,10 +27,10 @@ use Rattle.rows.specs.Entry.{Entry}
 use Rattle.trie_theory.specs.Forest.{Strings, Key}
 use Rattle.trie_theory.specs.Strings.{at}
 use Rattle.trie_theory.specs.Strings as Bytes
-use Rattle.trie_theory.proofs.Prefix.{Prefix, Prefixes, goesOn-prefixes, prefixes-at}
+use Rattle.trie_theory.proofs.Prefix.{Prefix, goesOn-prefixes, prefixes-at}
 use Rattle.entries.specs.Keys.{entryKey}
 use Rattle.entries.specs.Query.{Query, inRange, matchesEntry, lowest, highest, overlaps, valueReach, isMatch, reaches, wants}
-use Rattle.entries.specs.Branch.{ValueContinued, CouldMatch, Branch-Decided}
+use Rattle.entries.specs.Branch.{ValueContinued, Branch-Decided}
 
 -- ---- numbers
 

@@ -1,11 +1,11 @@
 -- The nodes that a search enters are exactly those for which the rule of entering holds: of sound tries whose values are bytes. Assumes nothing.
 use Prim.Native.Nat.{ℕ, _+_, _≤_}
-use mathlib.Core.Path.{_≡_, refl, sym, ap, ap₂, _∙_, subst}
+use mathlib.Core.Path.{_≡_, refl, sym, ap, _∙_}
 use mathlib.Core.Bool.{Bool, true, false, cond, _&&_}
-use mathlib.Core.List.{List, [], _∷_, _++_, map}
+use mathlib.Core.List.{List, [], _∷_, map}
 use native.Mathlib.Omega.{arith}
 use lib.ListN.{length, drop}
-use Rattle.buffer.specs.Lists.{All, nil, cons, all}
+use Rattle.buffer.specs.Lists.{All, all}
 use Rattle.buffer.specs.Numbers.{byte}
 use Rattle.buffer.proofs.Tests.{and-left, and-right, and-both}
 use Rattle.buffer.proofs.Lists.{all-tested, all-test, all-left, all-right, all-head}
@@ -14,7 +14,7 @@ use Rattle.trie_theory.specs.Strings.{at, goesOn}
 use Rattle.trie_theory.specs.Dimensions.{Above, root, below}
 use Rattle.trie_theory.specs.Sound.{Sound}
 use Rattle.trie_theory.specs.Search.{branch, enters, nodesEntered, admitted}
-use Rattle.trie_theory.proofs.Prefix.{Prefix, Prefixes, goesOn-prefixes, prefixes-at, prefixes-join}
+use Rattle.trie_theory.proofs.Prefix.{Prefixes, goesOn-prefixes, prefixes-at, prefixes-join}
 use Rattle.trie_theory.proofs.Search.{branch-join, entered-admitted}
 use Rattle.entries.specs.Query.{Query, reaches}
 use Rattle.entries.proofs.Branch.{prefix-rest, reaches-before}

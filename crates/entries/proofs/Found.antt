@@ -1,5 +1,4 @@
 -- What a search of a trie finds: of tries whose values are bytes, exactly the keys that match. Assumes nothing.
-use Prim.Native.Nat.{ℕ, suc, _<_}
 use mathlib.Core.Path.{_≡_, refl, sym, ap, ap₂, _∙_}
 use mathlib.Core.Bool.{Bool, true, false, cond, _&&_}
 use mathlib.Core.List.{List, [], _∷_, _++_, map}
@@ -9,7 +8,7 @@ use Rattle.buffer.proofs.Tests.{and-left, and-right}
 use Rattle.buffer.proofs.Lists.{all-imp, all-left, all-right}
 use Rattle.trie_theory.specs.Forest.{Strings, Key, Forest, none, leaf, inner, join, under, keys}
 use Rattle.trie_theory.specs.Strings.{at}
-use Rattle.trie_theory.specs.Dimensions.{Above, root, below}
+use Rattle.trie_theory.specs.Dimensions.{Above, below}
 use Rattle.trie_theory.specs.Search.{enters, found}
 use Rattle.trie_theory.proofs.Search.{found-all}
 use Rattle.entries.specs.Query.{Query, reaches, wants}

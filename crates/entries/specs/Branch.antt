@@ -1,6 +1,6 @@
 -- What it is to enter a branch: the test `reaches` holds exactly if some path, of any length, and some value, beginning with the bytes known,
 -- match (proved in proofs/Branch.antt). Assumes nothing: these are definitions.
-use Prim.Native.Nat.{ℕ, _^_, _≤_, _<_}
+use Prim.Native.Nat.{ℕ, _^_, _<_}
 use mathlib.Core.Path.{_≡_}
 use mathlib.Core.Logic.{_↔_}
 use mathlib.Core.Bool.{true}
