@@ -7,7 +7,7 @@ use native.Mathlib.Omega.{arith}
 use native.Mathlib.Nat.{mul-zero, mul-comm, div-lt-iff-lt-mul, mod-eq-of-lt}
 use lib.ListN.{length}
 use Rattle.buffer.specs.Lists.{all, count}
-use Rattle.buffer.proofs.Lists.{map-append, all-test}
+use Rattle.buffer.proofs.Lists.{map-append, all-test, all-tested}
 use Rattle.rows.specs.Entry.{Entry, sameEntry, fitsRow}
 use Rattle.rows.specs.Sorted.{sorted}
 use Rattle.rows.proofs.Rows.{entries-decided}
@@ -108,5 +108,5 @@ module _ (b : Book) (e : Entry) (j : ℕ) (h : length (small (b .M) (b .entries)
       let fits = fits-rows es (all-snoc formed (fromHighest (b .M) j (b .entries)) e (highest-formed (b .M) j (b .entries) (s .formed)) f) in
       ap (levelTrie (b .τ)) (overflows (b .M) j (b .entries) e h empty others .into)
       ∙ level-decided (b .τ) es xs fits
-      (all-test fitsRow (count-none fitsRow xs (counts (λ e. not (fitsRow e)) ∙ none-count fitsRow (Rattle.buffer.proofs.Lists.all-tested fitsRow es fits))))
+      (all-test fitsRow (count-none fitsRow xs (counts (λ e. not (fitsRow e)) ∙ none-count fitsRow (all-tested fitsRow es fits))))
       (λ d. sym (counts (sameEntry d)))

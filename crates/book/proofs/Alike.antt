@@ -7,7 +7,7 @@ use mathlib.Core.Bool.{Bool, true, false, cond}
 use mathlib.Core.List.{List, [], _∷_, _++_, map}
 use native.Mathlib.Omega.{arith}
 use native.Mathlib.Nat.{mod-lt}
-use lib.ListN.{length}
+use lib.ListN.{length, length-append}
 use lib.Dec.{eqb, ltb}
 use borrow.Author.Tests.{ltb-true, ltb-false, eqb-true, eqb-false}
 use Rattle.buffer.specs.Lists.{any, sum, flat, count}
@@ -25,7 +25,7 @@ use Rattle.trie_theory.specs.Lookup.{member}
 use Rattle.trie_theory.specs.Search.{nodesEntered}
 use Rattle.entries.specs.Keys.{entryKey}
 use Rattle.entries.specs.Query.{Query, reaches}
-use Rattle.book.specs.Front.{Front, entryRoom}
+use Rattle.book.specs.Front.{Front, frontRoom, entryRoom, frontBytes}
 use Rattle.book.specs.Digits.{digit, rounds, small}
 use Rattle.book.specs.Book.{Book, Sound, held, front, put, has, formed}
 use Rattle.book.specs.Tries.{every, levelTrie, tries}
@@ -93,7 +93,7 @@ module _ (b b′ : Book) (same : Same b b′) where
   pub image-same : image b ≡ image b′
   unfolding image storeOf
   image-same =
-      ap (λ (r : List ℕ). padded 4096 (Rattle.book.specs.Front.frontBytes (front b)) ++ r) (regions-same (b .M) (b .L) (tries b′) (tries b) (same .small) (same .level))
+      ap (λ (r : List ℕ). padded frontRoom (frontBytes (front b)) ++ r) (regions-same (b .M) (b .L) (tries b′) (tries b) (same .small) (same .level))
       ∙ ap (λ (f : Front). storeOf f (tries b′)) (same .front)
 
   found-same : (q : Query) (answer : List ℕ) → searchTries q (b .L) (tries b) answer ≡ searchTries q (b′ .L) (tries b′) answer
@@ -161,7 +161,7 @@ module _ (b b′ : Book) (same : Same b b′) (e : Entry) (s : Sound b) (s′ : 
           let k = ltb-false (length (small (b .M) (b .entries)) + 1) (b .M) q in
           let h : length (small (b .M) (b .entries)) + 1 ≡ b .M = omega (arith, few) in
           ⊎-elim (λ (z : FirstEmpty (b .L) (rounds (b .M) (b .entries))). overflows-same h z)
-          (λ (o : (i : ℕ) → i < b .L → digit i (rounds (b .M) (b .entries)) ≡ 1). absurd (not-all-full b h (omega (arith, p .room, lib.ListN.length-append (b .entries) (e ∷ []))) o))
+          (λ (o : (i : ℕ) → i < b .L → digit i (rounds (b .M) (b .entries)) ≡ 1). absurd (not-all-full b h (omega (arith, p .room, length-append (b .entries) (e ∷ []))) o))
           (first-empty (b .L) (rounds (b .M) (b .entries)))
 
 -- ---- ONE CALL, ALIKE

@@ -6,7 +6,7 @@ use mathlib.Core.Bool.{Bool, true}
 use mathlib.Core.List.{List, _++_, append-assoc, map}
 use native.Mathlib.Omega.{arith}
 use native.Mathlib.Nat.{mul-assoc, mul-one, pow-suc, pow-zero, mod-lt, mul-le-mul-left}
-use lib.ListN.{length, take, drop, replicate, length-append, length-replicate, length-map}
+use lib.ListN.{length, take, drop, replicate, length-append, length-replicate, length-map, take-append-drop}
 use lib.Seq.{take-at}
 use Rattle.buffer.specs.Lists.{all}
 use Rattle.buffer.proofs.Lists.{all-tested, all-test, all-left, all-right}
@@ -33,11 +33,11 @@ use Rattle.book.proofs.Keys.{keys-entries}
 
 pub all-drop : {A : Type 0} (f : A → Bool) (n : ℕ) (xs : List A) → all f xs ≡ true → all f (drop n xs) ≡ true
 all-drop f n xs a =
-    all-test f (all-right (take n xs) (drop n xs) (all-tested f (take n xs ++ drop n xs) (ap (all f) (lib.ListN.take-append-drop n xs) ∙ a)))
+    all-test f (all-right (take n xs) (drop n xs) (all-tested f (take n xs ++ drop n xs) (ap (all f) (take-append-drop n xs) ∙ a)))
 
 all-take : {A : Type 0} (f : A → Bool) (n : ℕ) (xs : List A) → all f xs ≡ true → all f (take n xs) ≡ true
 all-take f n xs a =
-    all-test f (all-left (take n xs) (drop n xs) (all-tested f (take n xs ++ drop n xs) (ap (all f) (lib.ListN.take-append-drop n xs) ∙ a)))
+    all-test f (all-left (take n xs) (drop n xs) (all-tested f (take n xs ++ drop n xs) (ap (all f) (take-append-drop n xs) ∙ a)))
 
 pub level-formed : (m i : ℕ) (es : List Entry) → all formed es ≡ true → all formed (level m i es) ≡ true
 unfolding level

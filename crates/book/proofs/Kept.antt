@@ -42,6 +42,7 @@ use Rattle.book.proofs.Unique.{same-tries}
 use Rattle.book.proofs.Alike.{search-alike, read-alike, add-alike}
 use Rattle.book.proofs.Writes.{as-held}
 use Rattle.book.proofs.Image.{image-fits}
+use lib.Seq.{take-all}
 
 -- ---- listings
 
@@ -218,7 +219,7 @@ module _ {store : List ℕ} {b : Book} (e : Entry) (h : HoldsBook store b) (t : 
   unfolding written
   after-holds =
       let n = length store in
-      let whole : (s : List ℕ) → length s ≡ n → take n s ≡ s = λ s z. lib.Seq.take-all n s (omega arith) in
+      let whole : (s : List ℕ) → length s ≡ n → take n s ≡ s = λ s z. take-all n s (omega arith) in
       holds-after n store after-sound (rw after-need (h .holds .enough)) (omega arith)
       (whole written after-length ∙ ap (λ (s : List ℕ). splice s 0 (image (stepped .book))) (sym (whole store refl)))
 

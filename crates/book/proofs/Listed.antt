@@ -6,7 +6,7 @@ use mathlib.Core.List.{List, [], _∷_, _++_}
 use native.Mathlib.Omega.{arith}
 use lib.ListN.{length, take, drop, take-append-drop}
 use lib.Dec.{ltb}
-use borrow.Author.Tests.{lt-ltb, le-ltb, not-true}
+use borrow.Author.Tests.{lt-ltb, le-ltb, not-true, ltb-false}
 use Rattle.buffer.specs.Lists.{any, pick, count}
 use Rattle.buffer.proofs.Tests.{and-left, and-right, and-both}
 use Rattle.buffer.proofs.Sums.{count-sum, sum-append}
@@ -99,7 +99,7 @@ distinct-once (x ∷ es) d e = go (sameEntry e x) refl (distinct-once es (and-ri
 
     go : (s : Bool) → sameEntry e x ≡ s → count (sameEntry e) es ≤ 1 → cond s (suc (count (sameEntry e) es)) (count (sameEntry e) es) ≤ 1
     go true s ih =
-        let z : count (sameEntry e) es ≤ 0 = rw (same-entry .equal e x s) (borrow.Author.Tests.ltb-false 0 (count (sameEntry x) es) none) in
+        let z : count (sameEntry e) es ≤ 0 = rw (same-entry .equal e x s) (ltb-false 0 (count (sameEntry x) es) none) in
         omega arith
     go false s ih = ih
 

@@ -7,12 +7,12 @@ use mathlib.Core.List.{List, [], _∷_, _++_, map}
 use native.Mathlib.Omega.{arith}
 use lib.ListN.{length}
 use lib.Dec.{eqb}
-use borrow.Author.Tests.{eqb-true, eq-eqb}
+use borrow.Author.Tests.{eqb-true, eq-eqb, lt-ltb}
 use Rattle.trie_theory.specs.Encode.{Twenty}
 use Rattle.buffer.specs.Lists.{All, nil, cons, all, any, pick, sum, count, flat, same}
 use Rattle.buffer.specs.Numbers.{byte}
 use Rattle.buffer.proofs.Tests.{and-left, and-right, and-both, bool-ext}
-use Rattle.buffer.proofs.Lists.{all-imp, all-tested, all-test, any-append, bytes-true, bytes-refl, strings-true, strings-refl}
+use Rattle.buffer.proofs.Lists.{all-imp, all-tested, all-test, any-append, bytes-true, bytes-refl, strings-true, strings-refl, all-append, all-every, all-pick, pick-append}
 use Rattle.buffer.proofs.Sums.{count-sum, sum-append, sum-map, sum-equal}
 use Rattle.rows.specs.Entry.{Entry, sameEntry, fitsRow}
 use Rattle.rows.specs.Order.{entryOrder}
@@ -42,7 +42,7 @@ use Rattle.book.specs.FromTries.{keyEntry, entriesOf, foundOf, entriesIn
 use Rattle.book.proofs.Digits.{levels-whole}
 use Rattle.book.proofs.Keys.{as-formed, keys-entries, fits-rows, key-entry}
 use Rattle.book.proofs.Image.{level-formed, small-formed, small-trie-of, level-trie-of}
-use Rattle.book.proofs.Listed.{count-append}
+use Rattle.book.proofs.Listed.{count-append, has-sorted}
 
 -- ---- counts
 
@@ -94,8 +94,8 @@ sameKey-entry e d = bool-ext (sameKey (entryKey e) (entryKey d)) (sameEntry e d)
     key-equal : (x y : Key) → sameKey x y ≡ true → x ≡ y
     key-equal x y h = λ i. record { strings = strings-true (x .strings) (y .strings) (parts .0) i; reference = bytes-true (x .reference) (y .reference) (parts .1) i }
       where
-        parts : (same (same lib.Dec.eqb) (x .strings) (y .strings) ≡ true) × (same lib.Dec.eqb (x .reference) (y .reference) ≡ true)
-        parts = unfold sameKey in (and-left (same (same lib.Dec.eqb) (x .strings) (y .strings)) (same lib.Dec.eqb (x .reference) (y .reference)) h, and-right (same (same lib.Dec.eqb) (x .strings) (y .strings)) (same lib.Dec.eqb (x .reference) (y .reference)) h)
+        parts : (same (same eqb) (x .strings) (y .strings) ≡ true) × (same eqb (x .reference) (y .reference) ≡ true)
+        parts = unfold sameKey in (and-left (same (same eqb) (x .strings) (y .strings)) (same eqb (x .reference) (y .reference)) h, and-right (same (same eqb) (x .strings) (y .strings)) (same eqb (x .reference) (y .reference)) h)
 
     forth : sameKey (entryKey e) (entryKey d) ≡ true → sameEntry e d ≡ true
     forth h = subst (λ (x : Entry). sameEntry e x ≡ true) (sym (key-entry e) ∙ ap keyEntry (key-equal (entryKey e) (entryKey d) h) ∙ key-entry d) (same-entry .self e)
@@ -135,7 +135,7 @@ trie-for es xs t f counts members r =
 
     first-valued : (ss : List (List ℕ)) → All (All (λ b. b < 256)) ss → all byte (at 0 ss) ≡ true
     first-valued [] a = refl
-    first-valued (s ∷ ss) (cons h a) = all-test byte (all-imp (λ b l. borrow.Author.Tests.lt-ltb b 256 l) h)
+    first-valued (s ∷ ss) (cons h a) = all-test byte (all-imp (λ b l. lt-ltb b 256 l) h)
 
     entry-valued : (x : Key) → Dimensions.Entry x → valued? x ≡ true
     entry-valued x e = first-valued (x .strings) (e .bytes)
@@ -152,14 +152,14 @@ unfolding tries
 level-for b s i =
     let es = level (b .M) i (b .entries) in
     let f = level-formed (b .M) i (b .entries) (s .formed) in
-    trie-for es (sorted entryOrder es) (tries b .level i) (all-sorted entryOrder formed es f) (λ p. count-sorted entryOrder p es) (λ e. Rattle.book.proofs.Listed.has-sorted es e) (level-trie-of es f (b .τ))
+    trie-for es (sorted entryOrder es) (tries b .level i) (all-sorted entryOrder formed es f) (λ p. count-sorted entryOrder p es) (λ e. has-sorted es e) (level-trie-of es f (b .τ))
 
 -- the entries of its keys, and those that a search finds, by counts
 pub keys-count : {es : List Entry} {t : Forest} → TrieFor es t → (p : Entry → Bool) → count p (entriesOf t) ≡ count p es
 unfolding entriesOf
 keys-count {es} {t} r p =
     count-map p keyEntry (keys [] t) ∙ r .kept (λ x. p (keyEntry x))
-    ∙ count-agree (λ e. p (keyEntry (entryKey e))) p (Rattle.buffer.proofs.Lists.all-every es (λ e. ap p (key-entry e)))
+    ∙ count-agree (λ e. p (keyEntry (entryKey e))) p (all-every es (λ e. ap p (key-entry e)))
 
 pub found-count : {es : List Entry} {t : Forest} (q : Query) → TrieFor es t → all formed es ≡ true → (p : Entry → Bool)
     → count p (foundOf q t) ≡ count p (pick (matchesEntry q) es)
@@ -207,7 +207,7 @@ module _ (b : Book) (s : Sound b) where
   found-counts q p =
       count-flat p (foundOf q) (every (b .L) (tries b))
       ∙ sum-tries b (λ t. count p (foundOf q t)) (λ es. count p (pick (matchesEntry q) es))
-      (λ xs ys. ap (count p) (Rattle.buffer.proofs.Lists.pick-append (matchesEntry q) xs ys) ∙ count-append p (pick (matchesEntry q) xs) (pick (matchesEntry q) ys))
+      (λ xs ys. ap (count p) (pick-append (matchesEntry q) xs ys) ∙ count-append p (pick (matchesEntry q) xs) (pick (matchesEntry q) ys))
       (found-count q (small-for b s) (small-formed (b .M) (b .entries) (s .formed)) p)
       (λ i. found-count q (level-for b s i) (level-formed (b .M) i (b .entries) (s .formed)) p) (b .L)
       ∙ ap (λ (es : List Entry). count p (pick (matchesEntry q) es)) whole
@@ -222,7 +222,7 @@ module _ (b : Book) (s : Sound b) where
       (all-test fitsRow picked) (λ e. found-counts q (sameEntry e))
     where
       picked : All (λ e. fitsRow e ≡ true) (pick (matchesEntry q) (b .entries))
-      picked = all-imp (λ e h. h .0) (Rattle.buffer.proofs.Lists.all-pick (matchesEntry q) (all-tested fitsRow (b .entries) (fits-rows (b .entries) (s .formed))))
+      picked = all-imp (λ e h. h .0) (all-pick (matchesEntry q) (all-tested fitsRow (b .entries) (fits-rows (b .entries) (s .formed))))
 
   -- WHAT IS LOOKED UP IN THE TRIES is what the book has
   looked-below : (e : Entry) (l : ℕ) → any (λ t. member root t (entryKey e)) (every l (tries b)) ≡ has (fromHighest (b .M) l (b .entries)) e
@@ -253,7 +253,7 @@ module _ (b : Book) (s : Sound b) where
   unfolding every
   entered-all q zero = cons (let r = small-for b s in entered-exactly q 2 root [] (tries b .small) (r .sound) (r .valued)) nil
   entered-all q (suc l) =
-      Rattle.buffer.proofs.Lists.all-append (entered-all q l) (cons (let r = level-for b s l in entered-exactly q 2 root [] (tries b .level l) (r .sound) (r .valued)) nil)
+      all-append (entered-all q l) (cons (let r = level-for b s l in entered-exactly q 2 root [] (tries b .level l) (r .sound) (r .valued)) nil)
 
   pub nodes-branches : (q : Query) → nodes q b ≡ branches q b
   unfolding nodes nodesOf branches

@@ -10,7 +10,7 @@ use lib.ListN.{length, take, drop, replicate, length-append, take-append-drop}
 use lib.Seq.{take-at, drop-at, take-append-le, drop-append-le, take-take, length-take-le}
 use Rattle.buffer.specs.Splice.{splice, region}
 use Rattle.buffer.specs.Numbers.{bytesOf}
-use Rattle.buffer.proofs.Splice.{splice-is}
+use Rattle.buffer.proofs.Splice.{splice-is, length-splice, region-drop}
 use Rattle.trie_theory.specs.Encode.{encode}
 use Rattle.book.specs.Front.{Front, frontSize, frontRoom, entryRoom, frontBytes, need}
 use Rattle.book.specs.Tries.{Tries}
@@ -41,16 +41,16 @@ write-through s x o b e h =
     let r = drop (length x) s in
     let whole : s ≡ x ++ r = sym (take-append-drop (length x) s) ∙ ap (λ (l : List ℕ). l ++ r) e in
     let y = splice x o b in
-    let n : length y ≡ length x = Rattle.buffer.proofs.Splice.length-splice x o b h in
+    let n : length y ≡ length x = length-splice x o b h in
     let left : splice s o b ≡ y ++ r = ap (λ (l : List ℕ). splice l o b) whole ∙ splice-append x r o b h in
     left ∙ sym (splice-is s 0 y ∙ ap (λ (k : ℕ). y ++ drop k s) (zero-add (length y) ∙ n))
 
 -- a region within the first bytes of a list
 region-take : (s : List ℕ) (k o n : ℕ) → o + n ≤ k → k ≤ length s → region s o n ≡ region (take k s) o n
 region-take s k o n h l =
-    Rattle.buffer.proofs.Splice.region-drop s o n (omega arith)
+    region-drop s o n (omega arith)
     ∙ ap (drop o) (sym (take-take (o + n) k s h))
-    ∙ sym (Rattle.buffer.proofs.Splice.region-drop (take k s) o n (rw (length-take-le k s l) (omega arith)))
+    ∙ sym (region-drop (take k s) o n (rw (length-take-le k s l) (omega arith)))
 
 -- ---- a store in three parts
 

@@ -4,7 +4,7 @@ use mathlib.Core.Path.{_≡_, refl, sym, ap, ap₂, _∙_}
 use mathlib.Core.Bool.{Bool, true}
 use mathlib.Core.List.{List, [], _∷_, _++_}
 use native.Mathlib.Omega.{arith}
-use native.Mathlib.Nat.{zero-add, mul-assoc, mul-one, pow-suc, pow-zero}
+use native.Mathlib.Nat.{zero-add, mul-assoc, mul-one, pow-suc, pow-zero, suc-add}
 use lib.ListN.{length, take, replicate, length-append}
 use lib.Seq.{take-at}
 use Rattle.buffer.specs.Lists.{count}
@@ -62,7 +62,7 @@ zeros n = replicate n 0
 
 replicate-append : (m n : ℕ) → replicate m 0 ++ replicate n 0 ≡ replicate {A = ℕ} (m + n) 0
 replicate-append zero n = rw (zero-add n)
-replicate-append (suc m) n = rw (native.Mathlib.Nat.suc-add m n) (ap (λ (l : List ℕ). 0 ∷ l) (replicate-append m n))
+replicate-append (suc m) n = rw (suc-add m n) (ap (λ (l : List ℕ). 0 ∷ l) (replicate-append m n))
 
 padded-none : (n : ℕ) → padded n (encode none) ≡ replicate n 0
 unfolding padded encode
