@@ -10,7 +10,7 @@ use borrow.Author.Tests.{eqb-true, eq-eqb, leb-true, le-leb, ltb-true, ltb-false
 use Rattle.buffer.specs.Lists.{All, nil, cons, none, all}
 use lib.Seq.{take-at}
 use Rattle.buffer.specs.Numbers.{bytesOf, byte}
-use Rattle.buffer.proofs.Tests.{and-left, and-right, not-both}
+use Rattle.buffer.proofs.Tests.{and-left, and-right, and-both, not-both}
 use Rattle.buffer.proofs.Lists.{all-imp, all-append, all-tested, all-test, all-map}
 use Rattle.buffer.proofs.Digits.{length-bytesOf, number-bytesOf, bytesOf-bytes}
 use Rattle.matcher.specs.Bytes.{slash, star, pathLimit, labelByte}
@@ -21,6 +21,8 @@ use Rattle.matcher.specs.declared.form.Form.the-variants.{Fine, TooLong, Malfor
 use Rattle.rows.specs.Sizes.{valueSize, referenceSize}
 use Rattle.rows.specs.Entry.{Entry, fitsRow}
 use Rattle.trie_theory.specs.Entries as Dimensions
+use Rattle.trie_theory.specs.Strings.{at}
+use Rattle.trie_theory.specs.Forest.{Key}
 use Rattle.trie_theory.specs.Entries.{complete, isValue, isPath, dims}
 use Rattle.entries.specs.Keys.{entryKey}
 use Rattle.book.specs.Book.{formed}
@@ -135,3 +137,44 @@ before-last t = take-at t (0 ∷ []) (length (t ++ (0 ∷ [])) - 1) (omega (arit
 pub key-entry : (e : Entry) → keyEntry (entryKey e) ≡ e
 unfolding keyEntry entryKey
 key-entry e = λ i. record { path = before-last (e .path) i; value = number-bytesOf 7 (e .value) i; reference = e .reference }
+
+-- ---- keys of entries, as a test
+
+unfoldable pub isEntry : Key → Bool
+isEntry x = complete dims (x .strings) && (leb (length (at 1 (x .strings))) 201 && (all (all byte) (x .strings) && eqb (length (x .reference)) 20))
+
+bytes-all : {ss : List (List ℕ)} → All (All (λ b. b < 256)) ss → all (all byte) ss ≡ true
+bytes-all nil = refl
+bytes-all (cons h a) = and-both (all-test byte (all-imp (λ b l. lt-ltb b 256 l) h)) (bytes-all a)
+
+all-bytes : (ss : List (List ℕ)) → all (all byte) ss ≡ true → All (All (λ b. b < 256)) ss
+all-bytes ss e = all-imp (λ s t. all-imp (λ b l. ltb-true b 256 l) (all-tested byte s t)) (all-tested (all byte) ss e)
+
+pub entry-tested : (x : Key) → Dimensions.Entry x → isEntry x ≡ true
+unfolding isEntry
+entry-tested x e =
+    and-both (e .whole) (and-both (le-leb (length (at 1 (x .strings))) 201 (e .short)) (and-both (bytes-all (e .bytes)) (eq-eqb (length (x .reference)) 20 (e .named))))
+
+pub tested-entry : (x : Key) → isEntry x ≡ true → Dimensions.Entry x
+unfolding isEntry
+tested-entry x h =
+    let a = complete dims (x .strings) in
+    let b = leb (length (at 1 (x .strings))) 201 in
+    let c = all (all byte) (x .strings) in
+    let d = eqb (length (x .reference)) 20 in
+    let r = and-right a (b && (c && d)) h in
+    let q = and-right b (c && d) r in
+    record {
+      whole = and-left a (b && (c && d)) h;
+      short = leb-true (length (at 1 (x .strings))) 201 (and-left b (c && d) r);
+      bytes = all-bytes (x .strings) (and-left c d q);
+      named = eqb-true (length (x .reference)) 20 (and-right c d q);
+    }
+
+-- the value of a key of an entry is of bytes
+pub entry-valued : (x : Key) → Dimensions.Entry x → all byte (at 0 (x .strings)) ≡ true
+entry-valued x e = go (x .strings) (e .bytes)
+  where
+    go : (ss : List (List ℕ)) → All (All (λ b. b < 256)) ss → all byte (at 0 ss) ≡ true
+    go [] a = refl
+    go (s ∷ ss) (cons h a) = all-test byte (all-imp (λ b l. lt-ltb b 256 l) h)

@@ -19,3 +19,4 @@ pub mod Unique
 pub mod Alike
 pub mod Kept
 pub mod CanRun
+pub mod Good

@@ -1,16 +1,13 @@
 -- From the tries that a store holds to the book: what they have, what a search finds in them, and what is looked up in them. A level forgets
 -- the sequence of its entries, so each law counts.
-use Prim.Native.Nat.{ℕ, zero, suc, _+_, _<_}
+use Prim.Native.Nat.{ℕ, zero, suc, _+_}
 use mathlib.Core.Path.{_≡_, refl, sym, ap, ap₂, _∙_, subst}
 use mathlib.Core.Bool.{Bool, true, false, not, cond, _&&_, _||_}
 use mathlib.Core.List.{List, [], _∷_, _++_, map}
 use native.Mathlib.Omega.{arith}
-use lib.ListN.{length}
 use lib.Dec.{eqb}
-use borrow.Author.Tests.{eqb-true, eq-eqb, lt-ltb}
 use Rattle.trie_theory.specs.Encode.{Twenty}
 use Rattle.buffer.specs.Lists.{All, nil, cons, all, any, pick, sum, count, flat, same}
-use Rattle.buffer.specs.Numbers.{byte}
 use Rattle.buffer.proofs.Tests.{and-left, and-right, and-both, bool-ext}
 use Rattle.buffer.proofs.Lists.{all-imp, all-tested, all-test, any-append, bytes-true, bytes-refl, strings-true, strings-refl, all-append, all-every, all-pick, pick-append}
 use Rattle.buffer.proofs.Sums.{count-sum, sum-append, sum-map, sum-equal}
@@ -20,7 +17,6 @@ use Rattle.rows.specs.Sorted.{sorted}
 use Rattle.rows.proofs.Sorted.{count-sorted, all-sorted}
 use Rattle.rows.proofs.Rows.{same-entry, entries-decided}
 use Rattle.trie_theory.specs.Forest.{Key, Forest, keys}
-use Rattle.trie_theory.specs.Strings.{at}
 use Rattle.trie_theory.specs.Dimensions.{root}
 use Rattle.trie_theory.specs.Lookup.{sameKey, among, member}
 use Rattle.trie_theory.specs.Search.{found, nodesEntered, admitted}
@@ -40,7 +36,7 @@ use Rattle.entries.proofs.Entered.{entered-exactly}
 use Rattle.book.specs.Overflow.{fromHighest}
 use Rattle.book.specs.FromTries.{keyEntry, entriesOf, foundOf, entriesIn, foundIn, hasIn}
 use Rattle.book.proofs.Digits.{levels-whole}
-use Rattle.book.proofs.Keys.{as-formed, keys-entries, fits-rows, key-entry}
+use Rattle.book.proofs.Keys.{as-formed, keys-entries, fits-rows, key-entry, isEntry, entry-tested, tested-entry, entry-valued}
 use Rattle.book.proofs.Image.{level-formed, small-formed, small-trie-of, level-trie-of}
 use Rattle.book.proofs.Listed.{count-append, has-sorted}
 
@@ -112,9 +108,8 @@ among-keys e (d ∷ es) = ap₂ _||_ (sameKey-entry e d) (among-keys e es)
 pub record TrieFor (es : List Entry) (t : Forest) : Type 0 where
   pub kept : (p : Key → Bool) → count p (keys [] t) ≡ count (λ e. p (entryKey e)) es
   pub lookup : (e : Entry) → member root t (entryKey e) ≡ has es e
-  pub valued : All Valued (keys [] t)
   pub sound : Trie.Sound 2 root t
-  pub named : All Twenty (keys [] t)
+  pub entries : All Dimensions.Entry (keys [] t)
 
 trie-for : (es xs : List Entry) (t : Forest) → all formed xs ≡ true → ((p : Entry → Bool) → count p xs ≡ count p es) → ((e : Entry) → has xs e ≡ has es e)
     → TrieOf 2 209 (map entryKey xs) t → TrieFor es t
@@ -123,22 +118,15 @@ trie-for es xs t f counts members r =
       kept = λ p. r .kept p ∙ count-map p entryKey xs ∙ counts (λ e. p (entryKey e));
       lookup = λ e. r .lookup (entryKey e) ∙ among-keys e xs ∙ members e;
       sound = r .sound;
-      named = all-imp (λ x t. eqb-true (length (x .reference)) 20 t) (count-none twenty? (keys [] t) (r .kept (λ x. not (twenty? x)) ∙ none-count twenty? (all-imp (λ x e. eq-eqb (length (x .reference)) 20 (e .named)) (keys-entries xs f))));
-      valued = count-none valued? (keys [] t) (r .kept (λ x. not (valued? x)) ∙ none-count valued? (all-imp entry-valued (keys-entries xs f)));
+      entries = all-imp tested-entry (count-none isEntry (keys [] t) (r .kept (λ x. not (isEntry x)) ∙ none-count isEntry (all-imp entry-tested (keys-entries xs f))));
     }
-  where
-    twenty? : Key → Bool
-    twenty? x = eqb (length (x .reference)) 20
 
-    valued? : Key → Bool
-    valued? x = all byte (at 0 (x .strings))
+-- its keys have values of bytes, and references of 20
+pub valued : {es : List Entry} {t : Forest} → TrieFor es t → All Valued (keys [] t)
+valued r = all-imp entry-valued (r .entries)
 
-    first-valued : (ss : List (List ℕ)) → All (All (λ b. b < 256)) ss → all byte (at 0 ss) ≡ true
-    first-valued [] a = refl
-    first-valued (s ∷ ss) (cons h a) = all-test byte (all-imp (λ b l. lt-ltb b 256 l) h)
-
-    entry-valued : (x : Key) → Dimensions.Entry x → valued? x ≡ true
-    entry-valued x e = first-valued (x .strings) (e .bytes)
+pub named : {es : List Entry} {t : Forest} → TrieFor es t → All Twenty (keys [] t)
+named r = all-imp (λ x e. e .named) (r .entries)
 
 pub small-for : (b : Book) → Sound b → TrieFor (small (b .M) (b .entries)) (tries b .small)
 unfolding tries
@@ -165,7 +153,7 @@ pub found-count : {es : List Entry} {t : Forest} (q : Query) → TrieFor es t �
     → count p (foundOf q t) ≡ count p (pick (matchesEntry q) es)
 unfolding foundOf
 found-count {es} {t} q r f p =
-    ap (λ (l : List Key). count p (map keyEntry l)) (found-keys q root [] t (r .valued))
+    ap (λ (l : List Key). count p (map keyEntry l)) (found-keys q root [] t (valued r))
     ∙ count-map p keyEntry (pick (wants q) (keys [] t))
     ∙ count-picked (λ x. p (keyEntry x)) (wants q) (keys [] t)
     ∙ r .kept (λ x. wants q x && p (keyEntry x))
@@ -251,9 +239,9 @@ module _ (b : Book) (s : Sound b) where
   -- THE NODES ENTERED are those that the rule of entering admits
   entered-all : (q : Query) (l : ℕ) → All (λ t. nodesEntered (reaches q) root [] t ≡ admitted (reaches q) root [] t) (every l (tries b))
   unfolding every
-  entered-all q zero = cons (let r = small-for b s in entered-exactly q 2 root [] (tries b .small) (r .sound) (r .valued)) nil
+  entered-all q zero = cons (let r = small-for b s in entered-exactly q 2 root [] (tries b .small) (r .sound) (valued r)) nil
   entered-all q (suc l) =
-      all-append (entered-all q l) (cons (let r = level-for b s l in entered-exactly q 2 root [] (tries b .level l) (r .sound) (r .valued)) nil)
+      all-append (entered-all q l) (cons (let r = level-for b s l in entered-exactly q 2 root [] (tries b .level l) (r .sound) (valued r)) nil)
 
   pub nodes-branches : (q : Query) → nodes q b ≡ branches q b
   unfolding nodes nodesOf branches

@@ -29,7 +29,7 @@ use Rattle.book.specs.Image.{padded, HoldsBook}
 use Rattle.book.proofs.Image.{image-fits}
 use Rattle.book.proofs.OneCall.{front-read}
 use Rattle.book.proofs.Regions.{holds-small, holds-level, smallAt, levelAt}
-use Rattle.book.proofs.OverTries.{TrieFor, small-for, level-for}
+use Rattle.book.proofs.OverTries.{TrieFor, named, small-for, level-for}
 
 -- ---- zeros
 
@@ -136,7 +136,7 @@ module _ (n : ℕ) (f g : Forest) (sf : Trie.Sound n root f) (sg : Trie.Sound n 
 region-injective : (n : ℕ) {es ds : List Entry} {f g : Forest} → TrieFor es f → TrieFor ds g → padded n (encode f) ≡ padded n (encode g) → f ≡ g
 unfolding padded
 region-injective n {f = f} {g = g} r t e =
-    zeros-injective 2 f g (r .sound) (t .sound) (sound-regular 2 root [] f (r .sound) (r .named)) (sound-regular 2 root [] g (t .sound) (t .named)) (n - length (encode f)) (n - length (encode g)) e
+    zeros-injective 2 f g (r .sound) (t .sound) (sound-regular 2 root [] f (r .sound) (named r)) (sound-regular 2 root [] g (t .sound) (named t)) (n - length (encode f)) (n - length (encode g)) e
 
 -- ---- two books that one store holds
 

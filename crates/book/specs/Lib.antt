@@ -11,6 +11,7 @@ pub mod Step
 pub mod FromTries
 -- The store, the promises of the four calls, and lists of calls
 pub mod Image
+pub mod Good
 pub mod Promises
 pub mod Ran
 -- What is proved
