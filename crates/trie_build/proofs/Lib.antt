@@ -1,0 +1,4 @@
+pub mod Turning
+pub mod Sets
+pub mod Sharing
+pub mod Splitting
