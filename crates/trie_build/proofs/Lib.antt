@@ -5,3 +5,5 @@ pub mod Splitting
 pub mod Scatter
 pub mod Slotted
 pub mod ScatterTurn
+pub mod Writing
+pub mod Wrote

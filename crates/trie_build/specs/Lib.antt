@@ -1,3 +1,4 @@
 pub mod Sets
 pub mod Positions
 pub mod Partition
+pub mod Nodes
