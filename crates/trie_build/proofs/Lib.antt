@@ -7,3 +7,6 @@ pub mod Slotted
 pub mod ScatterTurn
 pub mod Writing
 pub mod Wrote
+pub mod Columns
+pub mod Runs
+pub mod Noding

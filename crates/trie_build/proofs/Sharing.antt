@@ -119,13 +119,13 @@ pub region-get : (r : List ℕ) (a n i : ℕ) → i < n → getD (region r a n) 
 region-get r a n i h = getD-take n (drop a r) i 0 h ∙ getD-drop a r i 0
 
 -- the first byte of what is left of a string
-first-of : (s : List ℕ) (j : ℕ) → j < length s → first zero (drop j s ∷ []) ≡ getD s j 0
+pub first-of : (s : List ℕ) (j : ℕ) → j < length s → first zero (drop j s ∷ []) ≡ getD s j 0
 unfolding first
 first-of [] j h = absurd (omega arith)
 first-of (b ∷ s) zero h = refl
 first-of (b ∷ s) (suc j) h = first-of s j (omega arith)
 
-first-end : (s : List ℕ) (j : ℕ) → length s ≤ j → first zero (drop j s ∷ []) ≡ 256
+pub first-end : (s : List ℕ) (j : ℕ) → length s ≤ j → first zero (drop j s ∷ []) ≡ 256
 unfolding first
 first-end [] zero h = refl
 first-end [] (suc j) h = refl

@@ -2,3 +2,4 @@ pub mod Sets
 pub mod Positions
 pub mod Partition
 pub mod Nodes
+pub mod Build

@@ -1,0 +1,44 @@
+-- What the level builder promises. Assumes nothing: these are definitions.
+use Prim.Native.Nat.{ℕ, zero, suc, _+_, _*_, _≤_, _<_}
+use mathlib.Core.Path.{_≡_}
+use mathlib.Core.List.{List, [], _∷_}
+use lib.ListN.{length, getD, take, drop}
+use Rattle.buffer.specs.Splice.{region}
+use Rattle.rows.specs.Sizes.{pathAt}
+use Rattle.trie_theory.specs.Forest.{Strings, Key, none}
+use Rattle.trie_theory.specs.Strings.{at}
+use Rattle.trie_theory.specs.Position.{shared}
+use Rattle.trie_theory.specs.Level.{trie}
+use Rattle.trie_theory.specs.Encode.{encode}
+use Rattle.trie_read.specs.Shape.{aboveOf}
+use Rattle.entries.specs.Slots.{slotSize}
+use Rattle.trie_build.specs.Positions.{slotByte}
+use Rattle.trie_build.specs.Partition.{Outside}
+
+-- s′ is s with these bytes from `out` on; the stretches of the slots and of the scratch have some bytes, every other byte is as before
+pub record Built (s : List ℕ) (out slots scratch n : ℕ) (bytes s′ : List ℕ) : Type 0 where
+  pub long : length s′ ≡ length s
+  pub wrote : region s′ out (length bytes) ≡ bytes
+  pub kept : (i : ℕ) → Outside i out (length bytes) → Outside i slots (n * slotSize) → Outside i scratch (n * slotSize)
+      → getD s′ i 0 ≡ getD s i 0
+
+-- the first of the bytes that keys share: those that the node above knows
+unfoldable pub known : ℕ → ℕ → List Key → Strings
+known value path ks = take value (at 0 (shared ks)) ∷ take path (at 1 (shared ks)) ∷ []
+
+-- the bytes of the trie of keys below a node of a kind that knows so many bytes
+unfoldable pub trieBytes : ℕ → ℕ → ℕ → ℕ → List Key → List ℕ
+trieBytes τ above value path ks = encode (trie 2 τ (aboveOf above) (known value path ks) ks none)
+
+-- where in a slot the byte stands at which the keys of a node of a kind part
+abbrev pub columnOf : ℕ → ℕ → ℕ → ℕ
+columnOf zero value path = value
+columnOf (suc zero) value path = value
+columnOf (suc (suc d)) value path = pathAt + path
+
+-- the first r of n slots have one byte in a column, and the next another
+pub record Run (t : List ℕ) (n column r : ℕ) : Type 0 where
+  pub some : 0 < r
+  pub most : r ≤ n
+  pub alike : (k : ℕ) → k < r → slotByte t k column ≡ getD t column 0
+  pub ends : r < n → slotByte t r column ≡ getD t column 0 → ⊥
