@@ -10,3 +10,5 @@ pub mod Wrote
 pub mod Columns
 pub mod Runs
 pub mod Noding
+pub mod Frames
+pub mod Going
