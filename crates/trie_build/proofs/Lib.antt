@@ -12,3 +12,4 @@ pub mod Runs
 pub mod Noding
 pub mod Frames
 pub mod Going
+pub mod Opening

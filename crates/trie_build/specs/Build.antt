@@ -1,10 +1,11 @@
 -- What the level builder promises. Assumes nothing: these are definitions.
 use Prim.Native.Nat.{ℕ, zero, suc, _+_, _*_, _≤_, _<_}
 use mathlib.Core.Path.{_≡_}
-use mathlib.Core.List.{List, [], _∷_}
+use mathlib.Core.List.{List, [], _∷_, _++_}
 use lib.ListN.{length, getD, take, drop}
-use Rattle.buffer.specs.Splice.{region}
-use Rattle.rows.specs.Sizes.{pathAt}
+use Rattle.buffer.specs.Splice.{splice, region}
+use Rattle.matcher.specs.Bytes.{pathLimit}
+use Rattle.rows.specs.Sizes.{valueSize, pathAt}
 use Rattle.trie_theory.specs.Forest.{Strings, Key, none}
 use Rattle.trie_theory.specs.Strings.{at}
 use Rattle.trie_theory.specs.Position.{shared}
@@ -12,7 +13,8 @@ use Rattle.trie_theory.specs.Level.{trie}
 use Rattle.trie_theory.specs.Encode.{encode}
 use Rattle.trie_read.specs.Shape.{aboveOf}
 use Rattle.entries.specs.Slots.{slotSize}
-use Rattle.trie_build.specs.Positions.{slotByte}
+use Rattle.trie_build.specs.Positions.{slotByte, Split}
+use Rattle.trie_build.specs.Sets.{keysOf}
 use Rattle.trie_build.specs.Partition.{Outside}
 
 -- s′ is s with these bytes from `out` on; the stretches of the slots and of the scratch have some bytes, every other byte is as before
@@ -42,3 +44,10 @@ pub record Run (t : List ℕ) (n column r : ℕ) : Type 0 where
   pub most : r ≤ n
   pub alike : (k : ℕ) → k < r → slotByte t k column ≡ getD t column 0
   pub ends : r < n → slotByte t r column ≡ getD t column 0 → ⊥
+
+-- the set is split, and s′ is s with the strings of its node behind room for the head
+pub record Opened (s : List ℕ) (out slots n τ above vabove pabove : ℕ) (s′ : List ℕ) (kind value path : ℕ) : Type 0 where
+  pub split : Split τ above (keysOf n (drop slots s)) kind value path
+  pub value-most : value ≤ valueSize
+  pub path-most : path ≤ pathLimit + 1
+  pub is : let p = shared (keysOf n (drop slots s)) in s′ ≡ splice s (out + 7) (drop vabove (at 0 p) ++ drop pabove (at 1 p))

@@ -3,6 +3,7 @@ use crate::nodes::put_head;
 use crate::nodes::put_strings;
 use crate::nodes::put_suffixes;
 use crate::partition::partition;
+use crate::positions::Shape;
 use crate::positions::split;
 use entries::SLOT_SIZE;
 use rows::sizes::PATH_AT;
@@ -16,7 +17,7 @@ ghost use Rattle.trie_theory.specs.Position.{shared};
 ghost use Rattle.trie_theory.specs.Level.{levelOf};
 ghost use Rattle.trie_theory.specs.Encode.{encode};
 ghost use Rattle.trie_build.specs.Sets.{keysOf, shortPaths};
-ghost use Rattle.trie_build.specs.Build.{Built, trieBytes, columnOf, Run};
+ghost use Rattle.trie_build.specs.Build.{Built, trieBytes, columnOf, Run, Opened};
 
 // How many of the first slots have the first one's byte in a column.
 fn run(slots: &[u8], n: usize, column: usize) -> usize
@@ -45,6 +46,28 @@ fn column_of(kind: usize, value: usize, path: usize) -> usize
     value
 }
 
+// Splits the set and writes the strings of its node, behind room for the head.
+fn open_node(
+    s: &mut [u8],
+    out: usize,
+    slots: usize,
+    n: usize,
+    tau: usize,
+    above: usize,
+    vabove: usize,
+    pabove: usize,
+) -> Shape
+    requires { ⌜ (0 < n) × (above ≤ 2) × (shortPaths n (drop slots (now s)) ≡ true) × (vabove ≤ length (at 0 (shared (keysOf n (drop slots (now s)))))) × (pabove ≤ length (at 1 (shared (keysOf n (drop slots (now s)))))) × (out + length (trieBytes tau above vabove pabove (keysOf n (drop slots (now s)))) ≤ slots) × (slots + n * slotSize ≤ length (now s)) ⌝ }
+    ensures { λ r. ⌜ Opened (now (s .entry)) out slots n tau above vabove pabove (now (s .exit)) (r .kind) (r .value) (r .path) ⌝ }
+{
+    let end = slots + n * SLOT_SIZE;
+    let own = split(&s[slots..end], n, tau, above, vabove, pabove);
+    let value = own.value;
+    let path = own.path;
+    put_strings(s, out + 7, slots, vabove, value, pabove, path);
+    own
+}
+
 // Writes the trie of the set in `n` slots from `out` on, and returns where it ends. The node above has the kind `above` (0 at the root)
 // and knows `vabove` and `pabove` bytes.
 fn build(
@@ -61,13 +84,11 @@ fn build(
     requires { ⌜ (0 < n) × (above ≤ 2) × (shortPaths n (drop slots (now s)) ≡ true) × (vabove ≤ length (at 0 (shared (keysOf n (drop slots (now s)))))) × (pabove ≤ length (at 1 (shared (keysOf n (drop slots (now s)))))) × (out + length (trieBytes tau above vabove pabove (keysOf n (drop slots (now s)))) ≤ slots) × (slots + n * slotSize ≤ scratch) × (scratch + n * slotSize ≤ length (now s)) × (length (trieBytes tau above vabove pabove (keysOf n (drop slots (now s)))) < 2 ^ 32) ⌝ }
     ensures { λ r. ⌜ Built (now (s .entry)) out slots scratch n (trieBytes tau above vabove pabove (keysOf n (drop slots (now (s .entry))))) (now (s .exit)) × (r ≡ out + length (trieBytes tau above vabove pabove (keysOf n (drop slots (now (s .entry)))))) ⌝ }
 {
-    let end = slots + n * SLOT_SIZE;
-    let own = split(&s[slots..end], n, tau, above, vabove, pabove);
+    let own = open_node(s, out, slots, n, tau, above, vabove, pabove);
     let kind = own.kind;
     let value = own.value;
     let path = own.path;
     let body = out + 7 + (value - vabove) + (path - pabove);
-    put_strings(s, out + 7, slots, vabove, value, pabove, path);
     if kind == 0 {
         let stop = put_suffixes(s, body, slots, n, value, path);
         put_head(s, out, 0, value - vabove, path - pabove, stop - body);
@@ -75,6 +96,7 @@ fn build(
     }
     let column = column_of(kind, value, path);
     partition(s, slots, scratch, n, column);
+    let end = slots + n * SLOT_SIZE;
     let mut i: usize = 0;
     let mut o = body;
     while i < n {
