@@ -13,3 +13,4 @@ pub mod Noding
 pub mod Frames
 pub mod Going
 pub mod Opening
+pub mod Building

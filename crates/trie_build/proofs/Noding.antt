@@ -42,7 +42,7 @@ node-shape kind v p body = simp (append-assoc, append-nil)
 pub leafBody : List Key → List ℕ
 leafBody ks = flat (map suffixBytes (map (remains (shared ks)) ks))
 
-pub innerBody : ℕ → ℕ → List Key → List ℕ
+abbrev pub innerBody : ℕ → ℕ → List Key → List ℕ
 innerBody τ d ks = flat (map (levels.bytesOf 2 τ (below d) (shared ks)) (parts d ks))
 
 module _ (τ above v p : ℕ) (ks : List Key) (wide : length (shared ks) ≡ 2) (h : v ≤ length (at 0 (shared ks))) (l : p ≤ length (at 1 (shared ks))) where
@@ -61,7 +61,7 @@ module _ (τ above v p : ℕ) (ks : List Key) (wide : length (shared ks) ≡ 2) 
 
   pub inner-node : (d : ℕ) → choice 2 τ (aboveOf above) ks ≡ some d
       → trieBytes τ above v p ks ≡ headBytes (suc d) (length value) (length path) (length (innerBody τ d ks)) ++ ((value ++ path) ++ innerBody τ d ks)
-  unfolding trieBytes known innerBody
+  unfolding trieBytes known
   inner-node d e =
       levels.inner-bytes 2 τ (aboveOf above) (known v p ks) ks d e
       ∙ rw (strip-known v p (shared ks) wide h l) (node-shape (suc d) value path (flat (map (levels.bytesOf 2 τ (below d) (shared ks)) (parts d ks))))

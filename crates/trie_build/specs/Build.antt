@@ -1,6 +1,7 @@
 -- What the level builder promises. Assumes nothing: these are definitions.
-use Prim.Native.Nat.{ℕ, zero, suc, _+_, _*_, _≤_, _<_}
+use Prim.Native.Nat.{ℕ, zero, suc, _+_, _*_, _^_, _≤_, _<_}
 use mathlib.Core.Path.{_≡_}
+use mathlib.Core.Bool.{true}
 use mathlib.Core.List.{List, [], _∷_, _++_}
 use lib.ListN.{length, getD, take, drop}
 use Rattle.buffer.specs.Splice.{splice, region}
@@ -14,7 +15,7 @@ use Rattle.trie_theory.specs.Encode.{encode}
 use Rattle.trie_read.specs.Shape.{aboveOf}
 use Rattle.entries.specs.Slots.{slotSize}
 use Rattle.trie_build.specs.Positions.{slotByte, Split}
-use Rattle.trie_build.specs.Sets.{keysOf}
+use Rattle.trie_build.specs.Sets.{keysOf, shortPaths}
 use Rattle.trie_build.specs.Partition.{Outside}
 
 -- s′ is s with these bytes from `out` on; the stretches of the slots and of the scratch have some bytes, every other byte is as before
@@ -51,3 +52,16 @@ pub record Opened (s : List ℕ) (out slots n τ above vabove pabove : ℕ) (s�
   pub value-most : value ≤ valueSize
   pub path-most : path ≤ pathLimit + 1
   pub is : let p = shared (keysOf n (drop slots s)) in s′ ≡ splice s (out + 7) (drop vabove (at 0 p) ++ drop pabove (at 1 p))
+
+-- what the builder asks for: a set of n slots below a node of a kind that knows so many bytes, room for its trie before the slots, and
+-- a scratch stretch behind them
+pub record Ready (s : List ℕ) (out slots scratch n τ above vabove pabove : ℕ) : Type 0 where
+  pub some : 0 < n
+  pub kinds : above ≤ 2
+  pub short : shortPaths n (drop slots s) ≡ true
+  pub value-known : vabove ≤ length (at 0 (shared (keysOf n (drop slots s))))
+  pub path-known : pabove ≤ length (at 1 (shared (keysOf n (drop slots s))))
+  pub room : out + length (trieBytes τ above vabove pabove (keysOf n (drop slots s))) ≤ slots
+  pub apart : slots + n * slotSize ≤ scratch
+  pub inside : scratch + n * slotSize ≤ length s
+  pub small : length (trieBytes τ above vabove pabove (keysOf n (drop slots s))) < 2 ^ 32

@@ -17,7 +17,7 @@ ghost use Rattle.trie_theory.specs.Position.{shared};
 ghost use Rattle.trie_theory.specs.Level.{levelOf};
 ghost use Rattle.trie_theory.specs.Encode.{encode};
 ghost use Rattle.trie_build.specs.Sets.{keysOf, shortPaths};
-ghost use Rattle.trie_build.specs.Build.{Built, trieBytes, columnOf, Run, Opened};
+ghost use Rattle.trie_build.specs.Build.{Built, Ready, trieBytes, columnOf, Run, Opened};
 
 // How many of the first slots have the first one's byte in a column.
 fn run(slots: &[u8], n: usize, column: usize) -> usize
@@ -81,7 +81,7 @@ fn build(
     vabove: usize,
     pabove: usize,
 ) -> usize
-    requires { ⌜ (0 < n) × (above ≤ 2) × (shortPaths n (drop slots (now s)) ≡ true) × (vabove ≤ length (at 0 (shared (keysOf n (drop slots (now s)))))) × (pabove ≤ length (at 1 (shared (keysOf n (drop slots (now s)))))) × (out + length (trieBytes tau above vabove pabove (keysOf n (drop slots (now s)))) ≤ slots) × (slots + n * slotSize ≤ scratch) × (scratch + n * slotSize ≤ length (now s)) × (length (trieBytes tau above vabove pabove (keysOf n (drop slots (now s)))) < 2 ^ 32) ⌝ }
+    requires { ⌜ Ready (now s) out slots scratch n tau above vabove pabove ⌝ }
     ensures { λ r. ⌜ Built (now (s .entry)) out slots scratch n (trieBytes tau above vabove pabove (keysOf n (drop slots (now (s .entry))))) (now (s .exit)) × (r ≡ out + length (trieBytes tau above vabove pabove (keysOf n (drop slots (now (s .entry)))))) ⌝ }
 {
     let own = open_node(s, out, slots, n, tau, above, vabove, pabove);
