@@ -319,3 +319,18 @@ module _ {s : List ℕ} {out slots scratch n τ above v p : ℕ} (a : Ready s ou
         part-more s″ q′ b e =
             going-more g inner-room (a .apart) inside₂ h low two wide r run s″ q′ (rw (branches, o .split .value-is, o .split .path-is) at b)
             (rw (branches, o .split .value-is, o .split .path-is) at e)
+
+-- ---- the loop's invariant: whatever set the slots s₀ are the sorted slots of, its parts are built so far
+abbrev pub Growing : List ℕ → ℕ → ℕ → ℕ → ℕ → ℕ → ℕ → ℕ → ℕ → ℕ → ℕ → ℕ → List ℕ → ℕ → ℕ → Type 0
+Growing s₀ out slots scratch n τ above v p kind value path s i o =
+    (e s₁ : List ℕ) (a : Ready e out slots scratch n τ above v p) (q : Opened e out slots n τ above v p s₁ kind value path) (d : ℕ)
+    → choice 2 τ (aboveOf above) (keysOf n (drop slots e)) ≡ some d → kind ≡ suc d → d < 2 → Parted s₁ slots scratch n (columnOf kind value path) s₀
+    → Going s₀ slots scratch n (out + 7 + (value - v) + (path - p)) τ d (shared (keysOf n (drop slots e))) (undecided (keysOf n (drop slots e)))
+    (parts d (keysOf n (drop slots e))) s i o
+
+pub growing-more : {s₀ s : List ℕ} {out slots scratch n τ above v p kind value path i o : ℕ} → Growing s₀ out slots scratch n τ above v p kind value path s i o
+    → i < n → (r : ℕ) → Run (drop (slots + i * slotSize) s) (n - i) (columnOf kind value path) r → (s′ : List ℕ) (o′ : ℕ)
+    → Built s o (slots + i * slotSize) scratch r (trieBytes τ kind value path (keysOf r (drop (slots + i * slotSize) s))) s′
+    → o′ ≡ o + length (trieBytes τ kind value path (keysOf r (drop (slots + i * slotSize) s)))
+    → Growing s₀ out slots scratch n τ above v p kind value path s′ (i + r) o′
+growing-more {s = s} {i = i} {o = o} g h r w s′ o′ b f e s₁ a q d c k l t = part-more a q d c k l t s i o r (g e s₁ a q d c k l t) h w s′ o′ b f
