@@ -14,3 +14,4 @@ pub mod Frames
 pub mod Going
 pub mod Opening
 pub mod Building
+pub mod Level

@@ -18,6 +18,10 @@ use Rattle.trie_build.specs.Positions.{slotByte, Split}
 use Rattle.trie_build.specs.Sets.{keysOf, shortPaths}
 use Rattle.trie_build.specs.Partition.{Outside}
 
+-- room for a level: as many bytes for each entry are enough (law `figures` of trie_theory)
+abbrev pub entryRoom : ℕ
+entryRoom = 245
+
 -- s′ is s with these bytes from `out` on; the stretches of the slots and of the scratch have some bytes, every other byte is as before
 pub record Built (s : List ℕ) (out slots scratch n : ℕ) (bytes s′ : List ℕ) : Type 0 where
   pub long : length s′ ≡ length s

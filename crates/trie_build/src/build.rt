@@ -17,7 +17,7 @@ ghost use Rattle.trie_theory.specs.Position.{shared};
 ghost use Rattle.trie_theory.specs.Level.{levelOf};
 ghost use Rattle.trie_theory.specs.Encode.{encode};
 ghost use Rattle.trie_build.specs.Sets.{keysOf, shortPaths};
-ghost use Rattle.trie_build.specs.Build.{Built, Ready, trieBytes, columnOf, Run, Opened};
+ghost use Rattle.trie_build.specs.Build.{entryRoom, Built, Ready, trieBytes, columnOf, Run, Opened};
 
 // How many of the first slots have the first one's byte in a column.
 fn run(slots: &[u8], n: usize, column: usize) -> usize
@@ -107,4 +107,24 @@ fn build(
     }
     put_head(s, out, kind, value - vabove, path - pabove, o - body);
     o
+}
+
+// Writes the level of the keys in `n` slots (in row sequence) from `out` on, and returns how many bytes it has. The slots stand behind the
+// room for it, the scratch stretch behind the slots; both have some bytes afterwards.
+pub fn build_level(
+    s: &mut [u8],
+    out: usize,
+    slots: usize,
+    scratch: usize,
+    n: usize,
+    tau: usize,
+) -> usize
+    requires { ⌜ (shortPaths n (drop slots (now s)) ≡ true) × (out + entryRoom * n ≤ slots) × (slots + n * slotSize ≤ scratch) × (scratch + n * slotSize ≤ length (now s)) × (entryRoom * n < 2 ^ 32) ⌝ }
+    ensures { λ r. ⌜ Built (now (s .entry)) out slots scratch n (encode (levelOf 2 tau (keysOf n (drop slots (now (s .entry)))))) (now (s .exit)) × (r ≡ length (encode (levelOf 2 tau (keysOf n (drop slots (now (s .entry))))))) ⌝ }
+{
+    if n == 0 {
+        return 0;
+    }
+    let stop = build(s, out, slots, scratch, n, tau, 0, 0, 0);
+    stop - out
 }
