@@ -1,1 +1,3 @@
 pub mod Filling
+pub mod Putting
+pub mod Splitting

@@ -1,5 +1,5 @@
 -- What a walk over tries in bytes writes: for each key that has a slot some bytes, one after another. Assumes nothing: these are definitions.
-use Prim.Native.Nat.{ℕ, zero, suc, _+_, _-_, _≤_}
+use Prim.Native.Nat.{ℕ, _+_, _-_, _≤_}
 use mathlib.Core.Path.{_≡_}
 use mathlib.Core.Bool.{Bool, true, _&&_}
 use mathlib.Core.List.{List, [], _∷_, _++_, map}
@@ -25,7 +25,8 @@ pub record Put (g : Key → List ℕ) (Has : List Key → Type 0) (v p out room 
   pub put : List Key
   pub fit : all hasSlot put ≡ true
   pub count : r ≡ n + length put
-  pub writes : (s₀ : List ℕ) (done : List Key) → length done ≡ n → all hasSlot done ≡ true
+  pub long : length s' ≡ length s
+  pub writes : (s₀ : List ℕ) (done : List Key) → length s₀ ≡ length s → length done ≡ n → all hasSlot done ≡ true
       → s ≡ splice s₀ out (joined g (take room done))
       → s' ≡ splice s₀ out (joined g (take room (done ++ put)))
   pub front : take out s' ≡ take out s
@@ -48,9 +49,9 @@ pub record TrieKeys (depth : ℕ) (k : Strings) (t : List ℕ) (ks : List Key) :
   pub is : ks ≡ pick hasSlot (keys k tries)
 
 -- the same of the body of a node: a leaf has kind 0
-abbrev pub BodyKeys : ℕ → ℕ → Strings → List ℕ → List Key → Type 0
-BodyKeys zero depth k t ks = SuffixKeys k t ks
-BodyKeys (suc d) depth k t ks = TrieKeys depth k t ks
+pub record BodyKeys (kind depth : ℕ) (k : Strings) (t : List ℕ) (ks : List Key) : Type 0 where
+  pub leaf : kind ≡ 0 → SuffixKeys k t ks
+  pub inner : (kind ≡ 0 → ⊥) → TrieKeys depth k t ks
 
 -- A node is entered, if its strings have room behind the known bytes: then they are known too
 pub record Entered (v p : ℕ) (t : List ℕ) (path body : ℕ) (k k' : List ℕ) (r : Bool) : Type 0 where
