@@ -234,16 +234,27 @@ module _ (k a b r : List ℕ) (v p n : ℕ) (lk : length k ≡ slotSize) (la : v
   pub filled-kept : known v p (keySlot key) ≡ known v p k
   filled-kept = rw key-slot (known-same v p (parts value r path) k first-kept second-kept)
 
--- where they do not come to a value and a path, there is no slot
-pub unfilled : (k a b r : List ℕ) (v p : ℕ) → length k ≡ slotSize → v ≤ valueSize → p ≤ endedLimit
-    → (v + length a ≡ valueSize → 1 ≤ p + length b → p + length b ≤ endedLimit → ⊥) → hasSlot (under (known v p k) (keyOf a b r)) ≡ false
+-- a slot there is exactly where they come to a value and a path
+slot-lengths : (k a b r : List ℕ) (v p : ℕ) → length k ≡ slotSize → v ≤ valueSize → p ≤ endedLimit → hasSlot (under (known v p k) (keyOf a b r)) ≡ true
+    → (v + length a ≡ valueSize) × (length r ≡ referenceSize) × (1 ≤ p + length b) × (p + length b ≤ endedLimit)
 unfolding under join known
-unfilled k a b r v p lk lv lp h =
-    not-true (hasSlot (under (known v p k) (keyOf a b r)))
-    (λ e. let w = slotted (under (known v p k) (keyOf a b r)) e in
+slot-lengths k a b r v p lk lv lp h =
+    let w = slotted (under (known v p k) (keyOf a b r)) h in
     let value : length (take v k ++ a) ≡ v + length a = omega (arith, length-append (take v k) a, length-take-le v k (omega arith)) in
     let path : length (region k pathAt p ++ b) ≡ p + length b = omega (arith, length-append (region k pathAt p) b, length-region k pathAt p (omega arith)) in
-    h (sym value ∙ w .value) (omega (arith, w .ended)) (omega (arith, w .short)))
+    (sym value ∙ w .value, w .reference, omega (arith, w .ended), omega (arith, w .short))
+
+pub unfilled : (k a b r : List ℕ) (v p : ℕ) → length k ≡ slotSize → v ≤ valueSize → p ≤ endedLimit
+    → (v + length a ≡ valueSize → 1 ≤ p + length b → p + length b ≤ endedLimit → ⊥) → hasSlot (under (known v p k) (keyOf a b r)) ≡ false
+unfilled k a b r v p lk lv lp h =
+    not-true (hasSlot (under (known v p k) (keyOf a b r))) (λ e. let w = slot-lengths k a b r v p lk lv lp e in h (w .0) (w .2) (w .3))
+
+-- a slot made of known bytes and a suffix has the known bytes where they were
+pub slot-kept : (k a b r : List ℕ) (v p : ℕ) → length k ≡ slotSize → v ≤ valueSize → p ≤ endedLimit → hasSlot (under (known v p k) (keyOf a b r)) ≡ true
+    → known v p (keySlot (under (known v p k) (keyOf a b r))) ≡ known v p k
+slot-kept k a b r v p lk lv lp h =
+    let w = slot-lengths k a b r v p lk lv lp h in
+    filled-kept k a b r v p (p + length b) lk (w .0) (w .1) refl (w .2) (w .3)
 
 -- ---- the writes of a node
 

@@ -1,3 +1,4 @@
 pub mod Filling
 pub mod Putting
 pub mod Splitting
+pub mod Stepping

@@ -20,6 +20,7 @@ use Rattle.buffer.proofs.Tests.{and-left, and-right, and-both, bool-ext}
 use Rattle.rows.proofs.Records.{length-joined, wide, record-inside}
 use Rattle.trie_theory.specs.Forest.{Strings, Key}
 use Rattle.trie_read.specs.Shape.{part}
+use Rattle.trie_read.proofs.Stretch.{length-part}
 use Rattle.gather.specs.KeySlots.{hasSlot, known}
 use Rattle.gather.specs.Walks.{joined, Put}
 
@@ -234,3 +235,11 @@ pub part-inside : (s : List ℕ) (a e i j : ℕ) → i ≤ j → a + j ≤ e →
 part-inside s a e i j h l =
     let n : j - i ≡ a + j - (a + i) = omega arith in
     take-inside (j - i) i (e - a) (drop a s) (omega arith) ∙ rw (drop-drop i a s, n)
+
+-- the last part of a part
+pub part-rest : (s : List ℕ) (a e i : ℕ) → a + i ≤ e → e ≤ length s → part i (length (part a e s)) (part a e s) ≡ part (a + i) e s
+part-rest s a e i h l =
+    let n : length (part a e s) ≡ e - a = length-part s a e l in
+    let m : a + (e - a) ≡ e = omega arith in
+    let q : part i (e - a) (part a e s) ≡ part (a + i) (a + (e - a)) s = part-inside s a e i (e - a) (omega arith) (omega arith) in
+    rw n (q ∙ ap (λ (j : ℕ). part (a + i) j s) m)

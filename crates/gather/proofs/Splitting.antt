@@ -1,15 +1,21 @@
 -- The keys that bytes have, taken apart: those of the first suffix or node, and those behind it. Assumes nothing.
 use mathlib.Core.Path.{_≡_, refl, sym, ap, ap₂, _∙_}
-use mathlib.Core.Bool.{Bool, true, false, cond}
+use mathlib.Core.Bool.{Bool, true, false, _&&_}
 use mathlib.Core.Logic.{⊎-elim}
 use Prim.Native.Nat.{ℕ, zero, suc, _+_, _-_, _≤_, _<_}
 use mathlib.Core.List.{List, [], _∷_, _++_, map}
 use native.Mathlib.Omega.{arith}
-use lib.ListN.{length, length-append}
+use lib.ListN.{length, take, length-append}
+use lib.Dec.{leb}
+use lib.Seq.{length-take-le}
+use borrow.Author.Tests.{le-leb}
 use Rattle.buffer.specs.Lists.{All, pick}
 use Rattle.buffer.proofs.Lists.{pick-append}
-use Rattle.buffer.proofs.Tests.{not-true}
-use Rattle.rows.specs.Sizes.{valueSize}
+use Rattle.buffer.specs.Splice.{region}
+use Rattle.buffer.proofs.Splice.{length-region}
+use Rattle.buffer.proofs.Tests.{not-true, not-both, and-both}
+use Rattle.rows.specs.Sizes.{valueSize, pathAt}
+use Rattle.entries.specs.Slots.{slotSize}
 use Rattle.trie_theory.specs.Forest.{Strings, Key, Forest, none, leaf, inner, join, under, keys}
 use Rattle.trie_theory.specs.Strings.{at}
 use Rattle.trie_theory.specs.Size.{height}
@@ -25,21 +31,18 @@ use Rattle.trie_read.proofs.Node.{leaf-view, inner-view, head-end, head-good, s
 use Rattle.trie_read.proofs.Suffix.{Seen, tail-end, tail-good, tail-at}
 use Rattle.trie_read.proofs.Among.{two-strings}
 use Rattle.trie_read.proofs.Walking.{same?}
-use Rattle.gather.specs.KeySlots.{endedLimit, hasSlot}
+use Rattle.gather.specs.KeySlots.{endedLimit, hasSlot, known}
 use Rattle.gather.specs.Walks.{SuffixKeys, TrieKeys, BodyKeys}
 use Rattle.gather.proofs.Filling.{slotted}
 use Rattle.gather.proofs.Putting.{Two}
-
-pick-none : {A : Type 0} (t : A → Bool) (x : A) → t x ≡ false → pick t (x ∷ []) ≡ []
-unfolding pick
-pick-none t x e = rw e
 
 pub pick-one : {A : Type 0} (t : A → Bool) (x : A) → t x ≡ true → pick t (x ∷ []) ≡ x ∷ []
 unfolding pick
 pick-one t x e = rw e
 
 pub pick-not : {A : Type 0} (t : A → Bool) (x : A) → t x ≡ false → pick t (x ∷ []) ≡ []
-pick-not = pick-none
+unfolding pick
+pick-not t x e = rw e
 
 -- ---- suffixes
 
@@ -179,6 +182,15 @@ long-body {kind} {k = k} h ks b =
     (λ (z : kind ≡ 0). let s = b .leaf z in s .is ∙ long-suffixes k (s .suffixes) h)
     (λ (z : kind ≡ 0 → ⊥). let s = b .inner z in s .is ∙ long-keys k (s .tries) h)
     (same? kind 0)
+
+-- known bytes and strings that have no room behind them
+pub long-known : (k a b : List ℕ) (v p : ℕ) → length k ≡ slotSize → v ≤ valueSize → p ≤ endedLimit
+    → leb (v + length a) valueSize && leb (p + length b) endedLimit ≡ false → Long (join (known v p k) (a ∷ b ∷ []))
+unfolding join known
+long-known k a b v p lk lv lp e h g =
+    let value : length (take v k ++ a) ≡ v + length a = omega (arith, length-append (take v k) a, length-take-le v k (omega arith)) in
+    let path : length (region k pathAt p ++ b) ≡ p + length b = omega (arith, length-append (region k pathAt p) b, length-region k pathAt p (omega arith)) in
+    not-both (and-both (le-leb (v + length a) valueSize (omega arith)) (le-leb (p + length b) endedLimit (omega arith))) e
 
 -- ---- the root: nothing is known
 

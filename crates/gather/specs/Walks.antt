@@ -1,5 +1,5 @@
 -- What a walk over tries in bytes writes: for each key that has a slot some bytes, one after another. Assumes nothing: these are definitions.
-use Prim.Native.Nat.{ℕ, _+_, _-_, _≤_}
+use Prim.Native.Nat.{ℕ, _+_, _-_, _*_, _≤_}
 use mathlib.Core.Path.{_≡_}
 use mathlib.Core.Bool.{Bool, true, _&&_}
 use mathlib.Core.List.{List, [], _∷_, _++_, map}
@@ -11,6 +11,7 @@ use Rattle.rows.specs.Sizes.{valueSize}
 use Rattle.trie_theory.specs.Forest.{Strings, Key, Forest, join, under, keys}
 use Rattle.trie_theory.specs.Size.{height}
 use Rattle.trie_theory.specs.Encode.{Regular, encode}
+use Rattle.entries.specs.Slots.{slotSize}
 use Rattle.trie_read.specs.Shape.{Fixed, part}
 use Rattle.trie_read.specs.Suffixes.{suffixesBytes}
 use Rattle.gather.specs.KeySlots.{endedLimit, hasSlot, known}
@@ -58,3 +59,13 @@ pub record Entered (v p : ℕ) (t : List ℕ) (path body : ℕ) (k k' : List ℕ
   pub is : r ≡ leb (v + (path - 7)) valueSize && leb (p + (body - path)) endedLimit
   pub joins : r ≡ true → known (v + (path - 7)) (p + (body - path)) k' ≡ join (known v p k) (part 7 path t ∷ part path body t ∷ [])
   pub kept : known v p k' ≡ known v p k
+
+-- what a walk asks for: the bytes from..to stand before `out`, behind which there is room for as many slots; the key buffer is a slot
+pub record Ready (from to v p out room n : ℕ) (s k : List ℕ) : Type 0 where
+  pub ordered : from ≤ to
+  pub before : to ≤ out
+  pub fits : out + room * slotSize ≤ length s
+  pub few : n + (to - from) ≤ length s
+  pub buffer : length k ≡ slotSize
+  pub value : v ≤ valueSize
+  pub path : p ≤ endedLimit

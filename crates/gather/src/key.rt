@@ -10,8 +10,10 @@ use rows::sizes::REFERENCE_AT;
 use rows::sizes::VALUE_SIZE;
 ghost use mathlib.Core.Path.{_≡_};
 ghost use mathlib.Core.Bool.{cond, true};
-ghost use Prim.Native.Nat.{_+_, _-_, _≤_};
+ghost use Prim.Native.Nat.{_+_, _-_, _*_, _≤_};
+ghost use lib.Dec.{ltb};
 ghost use lib.ListN.{length};
+ghost use Rattle.buffer.specs.Splice.{splice};
 ghost use Rattle.rows.specs.Sizes.{valueSize};
 ghost use Rattle.trie_theory.specs.Forest.{under};
 ghost use Rattle.entries.specs.Slots.{slotSize};
@@ -72,4 +74,15 @@ pub fn enter(key: &mut [u8], v: usize, p: usize, t: &[u8], path: usize, body: us
         }
     }
     false
+}
+
+// Writes a record behind n others of its length from `out` on, if there is room.
+pub fn put(s: &mut [u8], out: usize, n: usize, room: usize, bytes: &[u8])
+    requires { ⌜ out + room * length (now bytes) ≤ length (now s) ⌝ }
+    ensures { λ _.
+        ⌜ now (s .exit) ≡ cond (ltb n room) (splice (now (s .entry)) (out + n * length (now (bytes .entry))) (now (bytes .entry))) (now (s .entry)) ⌝ }
+{
+    if n < room {
+        copy_from(s, out + n * bytes.len(), bytes);
+    }
 }
