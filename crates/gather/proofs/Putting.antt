@@ -184,9 +184,12 @@ pub record Two (A B : List Key → Type 0) (ks : List Key) : Type 0 where
   pub is : ks ≡ first ++ second
 
 module _ {g : Key → List ℕ} {Has : List Key → Type 0} {v p out room n : ℕ} {s k : List ℕ} where
-  pub going-start : Going g Has Has v p out room n s k s k n
+  pub going-from : {Left : List Key → Type 0} → ((ks : List Key) → Has ks → Left ks) → Going g Has Left v p out room n s k s k n
   unfolding put-none
-  going-start = record { so = put-none refl (λ ks z. absurd z); left = λ ks h. record { more = ks; has = h; all = refl } }
+  going-from f = record { so = put-none refl (λ ks z. absurd z); left = λ ks h. record { more = ks; has = f ks h; all = refl } }
+
+  pub going-start : Going g Has Has v p out room n s k s k n
+  going-start = going-from (λ ks h. h)
 
   module _ {Left : List Key → Type 0} {s' k' : List ℕ} {m : ℕ} (l : Going g Has Left v p out room n s k s' k' m) where
     -- nothing is left

@@ -6,6 +6,8 @@ use mathlib.Core.List.{List, [], _∷_}
 use native.Mathlib.Omega.{arith}
 use lib.ListN.{length}
 use lib.Dec.{leb, ltb}
+use borrow.Author.Tests.{leb-true}
+use Rattle.buffer.proofs.Tests.{and-left, and-right}
 use Rattle.buffer.specs.Lists.{All, pick}
 use Rattle.buffer.specs.Splice.{splice}
 use Rattle.rows.specs.Sizes.{valueSize}
@@ -24,7 +26,21 @@ use Rattle.gather.specs.KeySlots.{endedLimit, hasSlot, keySlot, known}
 use Rattle.gather.specs.Walks.{Put, SuffixKeys, TrieKeys, BodyKeys, Entered, Ready}
 use Rattle.gather.proofs.Filling.{length-slot, slot-kept, known-less}
 use Rattle.gather.proofs.Putting.{Going, Two, put-as, put-none, put-one, going-end, going-on, front-part, part-inside, part-rest}
-use Rattle.gather.proofs.Splitting.{suffixKey, suffix-end, suffix-bad, suffix-split, pick-one, pick-not, trie-end, trie-bad, trie-split, long-body, long-known}
+use Rattle.gather.proofs.Splitting.{suffixKey, suffix-end, suffix-bad, suffix-split, pick-one, pick-not, low-keys, trie-end, trie-bad, trie-split, long-body, long-known}
+
+-- a node that is entered has room
+pub entered-room : {v p path body : ℕ} {t k k' : List ℕ} {r : Bool} → Entered v p t path body k k' r → r ≡ true
+    → (v + (path - 7) ≤ valueSize) × (p + (body - path) ≤ endedLimit)
+entered-room {v} {p} {path} {body} e y =
+    let a = leb (v + (path - 7)) valueSize in
+    let b = leb (p + (body - path)) endedLimit in
+    let both = sym (e .is) ∙ y in
+    (leb-true (v + (path - 7)) valueSize (and-left a b both), leb-true (p + (body - path)) endedLimit (and-right a b both))
+
+-- no node is left to enter
+pub put-low : {kind depth v p out room n : ℕ} {k₀ : Strings} {t s k : List ℕ} → (kind ≡ 0 → ⊥) → depth ≡ 0
+    → Put keySlot (BodyKeys kind depth k₀ t) v p out room n s k s k n
+put-low {k₀ = k₀} z d = put-none refl (λ ks b. let w = b .inner z in w .is ∙ low-keys k₀ (w .tries) (omega (arith, w .high)))
 
 -- the later part, told of equal bytes
 two-suffixes : {A : List Key → Type 0} {k : Strings} {t t' : List ℕ} {ks : List Key} → t ≡ t' → Two A (SuffixKeys k t) ks → Two A (SuffixKeys k t') ks

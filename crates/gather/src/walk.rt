@@ -49,3 +49,66 @@ fn suffixes(
         }
     }
 }
+
+// The same of the body of a node: of its suffixes, if it is a leaf, else of its children, at most `depth` nodes one below the other. `kind` is the
+// node's; tries side by side are a body of any kind but 0.
+fn walk(
+    s: &mut [u8],
+    kind: usize,
+    from: usize,
+    to: usize,
+    key: &mut [u8],
+    v: usize,
+    p: usize,
+    depth: usize,
+    out: usize,
+    n: usize,
+    room: usize,
+) -> usize
+    requires { ⌜ Ready from to v p out room n (now s) (now key) ⌝ }
+    ensures { λ r. ⌜ r ≤ n + (to - from) ⌝ }
+    ensures { λ r.
+        ⌜ Put keySlot (BodyKeys kind depth (known v p (now (key .entry))) (part from to (now (s .entry)))) v p out room n (now (s .entry)) (now (key .entry)) (now (s .exit)) (now (key .exit)) r ⌝ }
+{
+    if kind == 0 {
+        return suffixes(s, from, to, key, v, p, out, n, room);
+    }
+    if depth == 0 {
+        return n;
+    }
+    let mut a = from;
+    let mut m = n;
+    loop {
+        match read_head(&s[a..to]) {
+            Head::Node {
+                kind: own,
+                path,
+                body,
+                next,
+            } => {
+                if enter(key, v, p, &s[a..to], path, body) {
+                    m = walk(
+                        s,
+                        own,
+                        a + body,
+                        a + next,
+                        key,
+                        v + (path - 7),
+                        p + (body - path),
+                        depth - 1,
+                        out,
+                        m,
+                        room,
+                    );
+                }
+                a += next;
+            }
+            Head::End => {
+                return m;
+            }
+            Head::Bad => {
+                return m;
+            }
+        }
+    }
+}
