@@ -2,3 +2,4 @@ pub mod Filling
 pub mod Putting
 pub mod Splitting
 pub mod Stepping
+pub mod Gathering

@@ -39,7 +39,7 @@ joined-one : (g : Key → List ℕ) (x : Key) → joined g (x ∷ []) ≡ g x
 unfolding joined flat
 joined-one g x = append-nil (g x)
 
-joined-none : (g : Key → List ℕ) → joined g [] ≡ []
+pub joined-none : (g : Key → List ℕ) → joined g [] ≡ []
 unfolding joined flat
 joined-none g = refl
 
@@ -106,7 +106,7 @@ module _ {g : Key → List ℕ} {v p out room : ℕ} where
 
 -- one key, that has a slot: its bytes, of one width for all keys, are written if there is room
 module _ (g : Key → List ℕ) (w : ℕ) (even : (x : Key) → hasSlot x ≡ true → length (g x) ≡ w) where
-  all-even : (xs : List Key) → all hasSlot xs ≡ true → all (wide w) (map g xs) ≡ true
+  pub all-even : (xs : List Key) → all hasSlot xs ≡ true → all (wide w) (map g xs) ≡ true
   all-even [] h = refl
   all-even (x ∷ xs) h =
       and-both (eq-eqb (length (g x)) w (even x (and-left (hasSlot x) (all hasSlot xs) h))) (all-even xs (and-right (hasSlot x) (all hasSlot xs) h))

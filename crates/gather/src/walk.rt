@@ -2,15 +2,20 @@
 use crate::key::compose;
 use crate::key::enter;
 use crate::key::put;
+use entries::SLOT_SIZE;
+use rows::sizes::NODE_LIMIT;
 use trie_read::head::Head;
 use trie_read::head::read_head;
 use trie_read::suffixes::Tail;
 use trie_read::suffixes::read_suffix;
 ghost use mathlib.Core.Path.{_≡_};
-ghost use Prim.Native.Nat.{_+_, _-_, _≤_};
+ghost use Prim.Native.Nat.{_+_, _-_, _*_, _≤_};
+ghost use lib.ListN.{length};
+ghost use Rattle.entries.specs.Slots.{slotSize};
 ghost use Rattle.trie_read.specs.Shape.{part};
 ghost use Rattle.gather.specs.KeySlots.{keySlot, known};
 ghost use Rattle.gather.specs.Walks.{Put, SuffixKeys, BodyKeys, Ready};
+ghost use Rattle.gather.specs.Gathered.{Gathered};
 
 // Puts the keys of the suffixes in s[from..to], behind n others. Returns how many there are then.
 fn suffixes(
@@ -111,4 +116,14 @@ fn walk(
             }
         }
     }
+}
+
+// Writes the slots of all keys of the tries in s[from..to], one after another, from `out` on, at most `room` of them. Returns how many.
+pub fn gather(s: &mut [u8], from: usize, to: usize, out: usize, room: usize) -> usize
+    requires { ⌜ (from ≤ to) × (to ≤ out) × (out + room * slotSize ≤ length (now s)) ⌝ }
+    ensures { λ r. ⌜ Gathered from to out room (now (s .entry)) (now (s .exit)) r ⌝ }
+{
+    let mut key = [0u8; SLOT_SIZE];
+    let n = walk(s, 1, from, to, &mut key, 0, 0, NODE_LIMIT, out, 0, room);
+    if n < room { n } else { room }
 }
