@@ -34,16 +34,16 @@ fn suffixes(
     ensures { λ r.
         ⌜ Put keySlot (SuffixKeys (known v p (now (key .entry))) (part from to (now (s .entry)))) v p out room n (now (s .entry)) (now (key .entry)) (now (s .exit)) (now (key .exit)) r ⌝ }
 {
-    let mut a = from;
+    let mut b = from;
     let mut m = n;
     loop {
-        match read_suffix(&s[a..to]) {
+        match read_suffix(&s[b..to]) {
             Tail::At { path, next } => {
-                if compose(key, v, p, &s[a..to], path, next) {
+                if compose(key, v, p, &s[b..to], path, next) {
                     put(s, out, m, room, key);
                     m += 1;
                 }
-                a += next;
+                b += next;
             }
             Tail::End => {
                 return m;

@@ -23,23 +23,23 @@ use Rattle.gather.proofs.key.put.Reads as put-reads
 use Rattle.trie_read.proofs.suffixes.read_suffix.Reads as read-suffix-reads
 
 abbrev Inv-loop : tie.InvT-loop
-Inv-loop s₀ from to key₀ v p out n room a₀ m₀ s key a m =
-    (from ≤ a) × (a ≤ to) × (m + from ≤ n + a) × (length s ≡ length s₀) × (length key ≡ slotSize)
-    × Going keySlot (SuffixKeys (known v p key₀) (part from to s₀)) (SuffixKeys (known v p key₀) (part a to s₀)) v p out room n s₀ key₀ s key m
+Inv-loop s₀ from to key₀ v p out n room b₀ m₀ s key b m =
+    (from ≤ b) × (b ≤ to) × (m + from ≤ n + b) × (length s ≡ length s₀) × (length key ≡ slotSize)
+    × Going keySlot (SuffixKeys (known v p key₀) (part from to s₀)) (SuffixKeys (known v p key₀) (part b to s₀)) v p out room n s₀ key₀ s key m
 
 abbrev μ-loop : tie.MeasureT-loop
-μ-loop s₀ from to key₀ v p out n room a₀ m₀ s key a m = to - a
+μ-loop s₀ from to key₀ v p out n room b₀ m₀ s key b m = to - b
 
 abbrev calls : lts.Claims
 calls = (read-suffix-reads.Asked, read-suffix-reads.Learnt, compose-reads.Asked, compose-reads.Learnt, put-reads.Asked, put-reads.Learnt)
 
 -- the places of the first suffix lie in what is left
 within : (c : lts.After-path calls reads.Pre reads.Post Inv-loop μ-loop)
-    → Within (At (c .path .given .0 .0) (c .path .given .0 .1 .0)) (c .before .before .before .before .before .before .before .before .args .to - c .before .before .before .before .before .loop .a)
+    → Within (At (c .path .given .0 .0) (c .path .given .0 .1 .0)) (c .before .before .before .before .before .before .before .before .args .to - c .before .before .before .before .before .loop .b)
 within c =
     let l = c .before .before .before .before .before .loop in
     let a = c .before .before .before .before .before .before .before .before .args in
-    rw (c .path .given .1, length-part (l .s) (l .a) (a .to) (omega arith)) at (c .before .before .read-suffix .ensures .0)
+    rw (c .path .given .1, length-part (l .s) (l .b) (a .to) (omega arith)) at (c .before .before .read-suffix .ensures .0)
 
 loop-again : tie.Need-loop-again Inv-loop μ-loop
 loop-again c =
@@ -57,7 +57,7 @@ loop-again c =
       rw (y .6) (y .3 .kept .0 ∙ l .inv .3),
       key,
       rw (y .6, y .7)
-          (suffixes-put (c .before .before .before .before .before .before .before .before .before .before .before .before .before .before .before .before .pre) (l .a) (omega arith) (l .inv .5) is _ _ e (omega arith) (l .inv .4) _ _ (sym (told .0) ∙ y .0 .taken) (rw (y .0 .taken) at (told .1)) (y .3 .ensures)),
+          (suffixes-put (c .before .before .before .before .before .before .before .before .before .before .before .before .before .before .before .before .pre) (l .b) (omega arith) (l .inv .5) is _ _ e (omega arith) (l .inv .4) _ _ (sym (told .0) ∙ y .0 .taken) (rw (y .0 .taken) at (told .1)) (y .3 .ensures)),
     ))
     (λ y. (
       omega arith,
@@ -66,7 +66,7 @@ loop-again c =
       rw (y .1) (l .inv .3),
       key,
       rw (y .1, y .2)
-          (suffixes-pass (c .before .before .before .before .before .before .before .before .before .before .before .before .before .before .before .before .pre) (l .a) (omega arith) (l .inv .5) is _ _ e (omega arith) (l .inv .4) _ (sym (told .0) ∙ y .0 .left) (rw (y .0 .left) at (told .1))),
+          (suffixes-pass (c .before .before .before .before .before .before .before .before .before .before .before .before .before .before .before .before .pre) (l .b) (omega arith) (l .inv .5) is _ _ e (omega arith) (l .inv .4) _ (sym (told .0) ∙ y .0 .left) (rw (y .0 .left) at (told .1))),
     ))
     (c .if1 .came)
 
@@ -83,7 +83,7 @@ suffixes-spec =
     (λ c. search needs)
     (λ c. search needs)
     (λ c. omega arith)
-    (λ c κs. let w = within (c .before .before .before .before) in let l = c .before .before .before .before .before .before .before .before .before .loop in (l .inv .4, c .before .before .before .before .before .before .before .before .before .before .before .before .pre .value, c .before .before .before .before .before .before .before .before .before .before .before .before .pre .path, omega arith, omega arith, omega (arith, length-part (l .s) (l .a) (c .before .before .before .before .before .before .before .before .before .before .before .before .args .to) (omega arith))))
+    (λ c κs. let w = within (c .before .before .before .before) in let l = c .before .before .before .before .before .before .before .before .before .loop in (l .inv .4, c .before .before .before .before .before .before .before .before .before .before .before .before .pre .value, c .before .before .before .before .before .before .before .before .before .before .before .before .pre .path, omega arith, omega arith, omega (arith, length-part (l .s) (l .b) (c .before .before .before .before .before .before .before .before .before .before .before .before .args .to) (omega arith))))
     (λ c κs. let long : length (c .before .before .before .before .before .compose .last .0) ≡ slotSize = c .before .before .before .before .before .compose .kept .0 ∙ c .before .before .before .before .before .before .before .before .before .before .before .before .before .before .before .loop .inv .4 in rw long (omega arith))
     (λ c. omega arith)
     (λ c. let w = within (c .before .before .before .before .before .before .before .before) in omega arith)
@@ -92,8 +92,8 @@ suffixes-spec =
     (λ c. search needs)
     (λ c. c .before .before .before .before .before .loop .inv .3)
     (λ c. omega arith)
-    (λ c. (omega arith, suffixes-end (c .before .before .before .before .before .before .before .before .pre) (c .before .before .before .before .before .loop .a) (omega arith) (c .before .before .before .before .before .loop .inv .5) (c .before .before .read-suffix .ensures .1) (c .enum-told .given .1)))
+    (λ c. (omega arith, suffixes-end (c .before .before .before .before .before .before .before .before .pre) (c .before .before .before .before .before .loop .b) (omega arith) (c .before .before .before .before .before .loop .inv .5) (c .before .before .read-suffix .ensures .1) (c .enum-told .given .1)))
     (λ c. search needs)
     (λ c. c .before .before .before .before .before .loop .inv .3)
     (λ c. omega arith)
-    (λ c. (omega arith, suffixes-bad (c .before .before .before .before .before .before .before .before .pre) (c .before .before .before .before .before .loop .a) (omega arith) (c .before .before .before .before .before .loop .inv .5) (c .before .before .read-suffix .ensures .1) (c .enum-told2 .given .1))))
+    (λ c. (omega arith, suffixes-bad (c .before .before .before .before .before .before .before .before .pre) (c .before .before .before .before .before .loop .b) (omega arith) (c .before .before .before .before .before .loop .inv .5) (c .before .before .read-suffix .ensures .1) (c .enum-told2 .given .1))))
