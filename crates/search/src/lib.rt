@@ -1,0 +1,2 @@
+// Searching tries: which nodes a search enters, how many, and the rows that it finds.
+pub mod value;
