@@ -1,6 +1,7 @@
 // Builds the level of each set of rows from standard input and prints its bytes in hex. A set: tau, the number of its rows (at most 32), its
 // rows in row sequence. The sets and what they print come from tools/oracle/trie_build.py.
 use entries::SLOT_SIZE;
+use matcher::bytes::PATH_LIMIT;
 use rows::sizes::LENGTH_AT;
 use rows::sizes::ROW_SIZE;
 ghost use mathlib.Core.Path.{_≡_};
@@ -20,7 +21,7 @@ const SCRATCH: usize = 16384;
 const MEMORY: usize = 24576;
 
 fn wide(b: u8) -> usize
-    ensures { λ r. ⌜ r < 256 ⌝ }
+    ensures { λ r. ⌜ (r ≡ b) × (r < 256) ⌝ }
 {
     b as usize
 }
@@ -32,7 +33,7 @@ fn short(slots: &[u8], n: usize) -> bool
 {
     let mut k: usize = 0;
     while k < n {
-        if slots[k * SLOT_SIZE + LENGTH_AT] > 200 {
+        if wide(slots[k * SLOT_SIZE + LENGTH_AT]) > PATH_LIMIT {
             return false;
         }
         k += 1;
