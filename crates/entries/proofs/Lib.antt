@@ -1,1 +1,4 @@
 pub mod Slots
+pub mod Branch
+pub mod Found
+pub mod Entered

@@ -1,3 +1,4 @@
 pub mod Keys
 pub mod Slots
 pub mod Query
+pub mod Branch

@@ -18,11 +18,12 @@ use Rattle.trie_read.specs.Shape.{aboveOf}
 use Rattle.trie_read.specs.Heads.{front, headOf, bodyOf}
 use Rattle.trie_read.specs.Places.{top}
 use Rattle.trie_read.specs.declared.head.Head.the-variants.{Node}
+use Rattle.trie_add.specs.Sizes.{growthSize}
 use Rattle.trie_add.specs.Replaced.{Replaced}
 
--- the most bytes that the addition of a key makes tries longer: a parent, and a leaf with a suffix
+-- the most bytes that the addition of a key makes tries longer
 abbrev pub growthLimit : Key → ℕ
-growthLimit x = 36 + length (at 0 (x .strings)) + length (at 1 (x .strings))
+growthLimit x = growthSize + length (at 0 (x .strings)) + length (at 1 (x .strings))
 
 -- the tries between `off` and `stop`, where those above have the kind `above` and at most `depth` nodes stand one below the other
 pub record Added (s : List ℕ) (off stop used above depth : ℕ) (x : Key) (s′ : List ℕ) (r : ℕ) : Type 0 where

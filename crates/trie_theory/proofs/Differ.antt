@@ -35,7 +35,7 @@ differ-apart d c x xs e a =
     omega (arith, first-self d p)
 
 -- the byte behind a prefix is a matter of one dimension
-byte-at : (d : ℕ) (p : Strings) (x : Key) → byte d p x ≡ first zero (drop (length (at d p)) (at d (x .strings)) ∷ [])
+pub byte-at : (d : ℕ) (p : Strings) (x : Key) → byte d p x ≡ first zero (drop (length (at d p)) (at d (x .strings)) ∷ [])
 unfolding byte
 byte-at d p x = first-at d (strip p (x .strings)) ∙ ap (λ (l : List ℕ). first zero (l ∷ [])) (at-strip d p (x .strings))
 

@@ -9,7 +9,7 @@ use Rattle.trie_theory.specs.Forest.{Strings, Key, Forest, none, leaf, i
 use Rattle.buffer.specs.Lists.{All, nil, cons, pick}
 use Rattle.trie_theory.specs.Strings.{goesOn}
 use Rattle.trie_theory.specs.Dimensions.{Above, root, below}
-use Rattle.trie_theory.specs.Search.{branch, enters, nodesEntered, found}
+use Rattle.trie_theory.specs.Search.{branch, enters, nodesEntered, admitted, found}
 use Rattle.trie_theory.specs.Size.{nodes}
 use Rattle.buffer.proofs.Lists.{pick-append}
 use Rattle.buffer.proofs.Tests.{not-true}
@@ -78,14 +78,6 @@ module _ (reach : Strings → Bool) (matching : Key → Bool)
       ∙ guarded above k s (all-keys (join k s) kids))
       (found-all above k more)
       ∙ sym (pick-append matching (keys (join k s) kids) (keys k more))
-
--- the nodes that the rule of entering admits, walked to or not
-unfoldable pub admitted : (Strings → Bool) → Above → Strings → Forest → ℕ
-unfolding enters join
-admitted reach above k none = 0
-admitted reach above k (leaf s ts more) = cond (enters reach above k s) 1 0 + admitted reach above k more
-admitted reach above k (inner d s kids more) =
-    cond (enters reach above k s) 1 0 + admitted reach (below d) (join k s) kids + admitted reach above k more
 
 module _ (reach : Strings → Bool) (down : (k l : Strings) → goesOn k l ≡ true → reach l ≡ true → reach k ≡ true) where
   -- where bytes are refused, so is all that goes on from them

@@ -28,6 +28,13 @@ module _ (reach : Strings → Bool) where
   nodesEntered above k (inner d s kids more) =
       cond (enters above k s) (1 + nodesEntered (below d) (join k s) kids) 0 + nodesEntered above k more
 
+  -- The number of nodes for which the rule of entering holds, walked to or not. A walk enters exactly these, where what can be continued
+  -- could be continued before (`entered-admitted`)
+  unfoldable pub admitted : Above → Strings → Forest → ℕ
+  admitted above k none = 0
+  admitted above k (leaf s ts more) = cond (enters above k s) 1 0 + admitted above k more
+  admitted above k (inner d s kids more) = cond (enters above k s) 1 0 + admitted (below d) (join k s) kids + admitted above k more
+
   -- the keys found: those of the leaves entered that match
   unfoldable pub found : (Key → Bool) → Above → Strings → Forest → List Key
   found matching above k none = []

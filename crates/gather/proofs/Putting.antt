@@ -1,0 +1,248 @@
+-- Keys put one after another: what the steps of a walk together put. One set of laws for loops over suffixes and over siblings, for slots
+-- and for rows. Assumes nothing.
+use mathlib.Core.Path.{_≡_, refl, sym, ap, ap₂, _∙_}
+use mathlib.Core.Bool.{Bool, true, false, cond, _&&_}
+use mathlib.Core.Logic.{_⊎_, inl, inr, ⊎-elim}
+use Prim.Native.Nat.{ℕ, zero, suc, _+_, _-_, _*_, _≤_, _<_}
+use mathlib.Core.List.{List, [], _∷_, _++_, append-assoc, append-nil, map}
+use native.Mathlib.Omega.{arith}
+use native.Mathlib.Decide.{decLe}
+use native.Mathlib.Nat.{lt-of-not-le}
+use lib.ListN.{length, take, drop, length-append, length-map}
+use lib.Dec.{ltb}
+use lib.Seq.{take-all, take-append-le, take-take, drop-drop}
+use borrow.Author.Tests.{lt-ltb, le-ltb, eq-eqb}
+use Rattle.buffer.specs.Lists.{all, pick, flat}
+use Rattle.buffer.specs.Splice.{splice}
+use Rattle.buffer.proofs.Lists.{map-append}
+use Rattle.buffer.proofs.Splice.{length-splice, splice-then, take-before, region-drop}
+use Rattle.buffer.proofs.Tests.{and-left, and-right, and-both, bool-ext}
+use Rattle.rows.proofs.Records.{length-joined, wide, record-inside}
+use Rattle.trie_theory.specs.Forest.{Strings, Key}
+use Rattle.trie_read.specs.Shape.{part}
+use Rattle.trie_read.proofs.Stretch.{length-part}
+use Rattle.gather.specs.KeySlots.{hasSlot, known}
+use Rattle.gather.specs.Walks.{joined, Put}
+
+-- ---- lists of keys
+
+flat-append : (xs ys : List (List ℕ)) → flat (xs ++ ys) ≡ flat xs ++ flat ys
+unfolding flat
+flat-append [] ys = refl
+flat-append (x ∷ xs) ys = ap (λ (l : List ℕ). x ++ l) (flat-append xs ys) ∙ sym (append-assoc x (flat xs) (flat ys))
+
+pub joined-append : (g : Key → List ℕ) (xs ys : List Key) → joined g (xs ++ ys) ≡ joined g xs ++ joined g ys
+unfolding joined
+joined-append g xs ys = ap flat (map-append g xs ys) ∙ flat-append (map g xs) (map g ys)
+
+joined-one : (g : Key → List ℕ) (x : Key) → joined g (x ∷ []) ≡ g x
+unfolding joined flat
+joined-one g x = append-nil (g x)
+
+pub joined-none : (g : Key → List ℕ) → joined g [] ≡ []
+unfolding joined flat
+joined-none g = refl
+
+all-both : {A : Type 0} (t : A → Bool) (xs ys : List A) → all t xs ≡ true → all t ys ≡ true → all t (xs ++ ys) ≡ true
+all-both t [] ys a b = b
+all-both t (x ∷ xs) ys a b = and-both (and-left (t x) (all t xs) a) (all-both t xs ys (and-right (t x) (all t xs) a) b)
+
+less? : (a b : ℕ) → (a < b) ⊎ (b ≤ a)
+less? a b = elim (decLe b a) [ yes h ↦ inr h | no h ↦ inl (lt-of-not-le h) ]
+
+-- ---- the steps
+
+-- what tells nothing
+abbrev pub Nothing : List Key → Type 0
+Nothing ks = ⊥
+
+module _ {g : Key → List ℕ} {v p out room : ℕ} where
+  -- the same keys, told otherwise
+  pub put-as : {A B : List Key → Type 0} {n r : ℕ} {s k s' k' : List ℕ} (a : Put g A v p out room n s k s' k' r)
+      → ((ks : List Key) → B ks → a .put ≡ ks) → Put g B v p out room n s k s' k' r
+  put-as a h =
+      record {
+        put = a .put;
+        fit = a .fit;
+        count = a .count;
+        long = a .long;
+        writes = a .writes;
+        front = a .front;
+        kept = a .kept;
+        are = h;
+      }
+
+  -- no key
+  pub put-none : {A : List Key → Type 0} {n : ℕ} {s k k' : List ℕ} → known v p k' ≡ known v p k → ((ks : List Key) → A ks → ks ≡ [])
+      → Put g A v p out room n s k s k' n
+  put-none {A} {n} {s} {k} {k'} kept h =
+      record {
+        put = [];
+        fit = refl;
+        count = omega arith;
+        long = refl;
+        writes = λ s₀ done l c f e. rw (append-nil done) e;
+        front = refl;
+        kept = kept;
+        are = λ ks a. sym (h ks a);
+      }
+
+  -- some, and then some
+  pub put-then : {A B : List Key → Type 0} {n m r : ℕ} {s k s' k' s'' k'' : List ℕ}
+      → Put g A v p out room n s k s' k' m → Put g B v p out room m s' k' s'' k'' r → Put g Nothing v p out room n s k s'' k'' r
+  put-then {A} {B} {n} {m} {r} {s} {k} {s'} {k'} {s''} {k''} a b =
+      record {
+        put = a .put ++ b .put;
+        fit = all-both hasSlot (a .put) (b .put) (a .fit) (b .fit);
+        count = omega (arith, a .count, b .count, length-append (a .put) (b .put));
+        long = b .long ∙ a .long;
+        writes = λ s₀ done l c f e.
+            let q = b .writes s₀ (done ++ a .put) (omega (arith, a .long)) (omega (arith, a .count, length-append done (a .put))) (all-both hasSlot done (a .put) f (a .fit)) (a .writes s₀ done l c f e) in
+            rw (append-assoc done (a .put) (b .put)) at q;
+        front = b .front ∙ a .front;
+        kept = b .kept ∙ a .kept;
+        are = λ ks z. absurd z;
+      }
+
+-- one key, that has a slot: its bytes, of one width for all keys, are written if there is room
+module _ (g : Key → List ℕ) (w : ℕ) (even : (x : Key) → hasSlot x ≡ true → length (g x) ≡ w) where
+  pub all-even : (xs : List Key) → all hasSlot xs ≡ true → all (wide w) (map g xs) ≡ true
+  all-even [] h = refl
+  all-even (x ∷ xs) h =
+      and-both (eq-eqb (length (g x)) w (even x (and-left (hasSlot x) (all hasSlot xs) h))) (all-even xs (and-right (hasSlot x) (all hasSlot xs) h))
+
+  pub length-put : (xs : List Key) → all hasSlot xs ≡ true → length (joined g xs) ≡ length xs * w
+  unfolding joined
+  length-put xs h = length-joined w (map g xs) (all-even xs h) ∙ ap (λ (n : ℕ). n * w) (length-map xs g)
+
+  module _ (out room n : ℕ) (s s' : List ℕ) (x : Key) (has : hasSlot x ≡ true) (fits : out + room * w ≤ length s)
+      (is : s' ≡ cond (ltb n room) (splice s (out + n * w) (g x)) s) where
+    more : (done : List Key) → all hasSlot done ≡ true → length done ≡ n → n < room → joined g (take room (done ++ (x ∷ []))) ≡ joined g (take room done) ++ g x
+    more done f c l =
+        let m = length-append done (x ∷ []) in
+        let a : take room (done ++ (x ∷ [])) ≡ done ++ (x ∷ []) = take-all room (done ++ (x ∷ [])) (omega arith) in
+        let b : take room done ≡ done = take-all room done (omega arith) in
+        rw (a, b, joined-append g done (x ∷ []), joined-one g x)
+
+    wrote-room : n < room → (s₀ : List ℕ) (done : List Key) → length s₀ ≡ length s → length done ≡ n → all hasSlot done ≡ true
+        → s ≡ splice s₀ out (joined g (take room done)) → s' ≡ splice s₀ out (joined g (take room (done ++ (x ∷ []))))
+    wrote-room l s₀ done ls c f e =
+        let b : take room done ≡ done = take-all room done (omega arith) in
+        let long : length (joined g (take room done)) ≡ n * w = rw b (length-put done f ∙ ap (λ (i : ℕ). i * w) c) in
+        let inside = record-inside n room w l in
+        is
+        ∙ rw (lt-ltb n room l)
+        (splice-then s s₀ out (joined g (take room done)) (out + n * w) (g x) e (omega arith) (omega arith)
+        ∙ ap (splice s₀ out) (sym (more done f c l)))
+
+    wrote-full : room ≤ n → (s₀ : List ℕ) (done : List Key) → length done ≡ n
+        → s ≡ splice s₀ out (joined g (take room done)) → s' ≡ splice s₀ out (joined g (take room (done ++ (x ∷ []))))
+    wrote-full l s₀ done c e =
+        let h : room ≤ length done = omega arith in
+        is ∙ rw (le-ltb n room l, take-append-le room done) e
+
+    pub put-one : {v p : ℕ} {k k' : List ℕ} → known v p k' ≡ known v p k → Put g (λ ks. ks ≡ x ∷ []) v p out room n s k s' k' (n + 1)
+    put-one kept =
+        record {
+          put = x ∷ [];
+          fit = and-both has refl;
+          count = refl;
+          long = ⊎-elim
+              (λ (l : n < room). let inside = record-inside n room w l in
+              ap length is ∙ rw (lt-ltb n room l) (length-splice s (out + n * w) (g x) (omega (arith, even x has))))
+              (λ (l : room ≤ n). ap length is ∙ rw (le-ltb n room l))
+              (less? n room);
+          writes = λ s₀ done ls c f e.
+              ⊎-elim (λ (l : n < room). wrote-room l s₀ done ls c f e) (λ (l : room ≤ n). wrote-full l s₀ done c e) (less? n room);
+          front = ⊎-elim
+              (λ (l : n < room). let inside = record-inside n room w l in
+              ap (take out) is ∙ rw (lt-ltb n room l) (take-before s (out + n * w) (g x) (omega (arith, even x has)) out (omega arith)))
+              (λ (l : room ≤ n). ap (take out) is ∙ rw (le-ltb n room l))
+              (less? n room);
+          kept = kept;
+          are = λ ks e. sym e;
+        }
+
+-- ---- a loop
+
+-- of the keys ks some are put, and those that `Left` tells are left
+pub record Rest (Left : List Key → Type 0) (put ks : List Key) : Type 0 where
+  pub more : List Key
+  pub has : Left more
+  pub all : put ++ more ≡ ks
+
+pub record Going (g : Key → List ℕ) (Has Left : List Key → Type 0) (v p out room n : ℕ) (s k s' k' : List ℕ) (m : ℕ) : Type 0 where
+  pub so : Put g Nothing v p out room n s k s' k' m
+  pub left : (ks : List Key) → Has ks → Rest Left (so .put) ks
+
+-- keys in two parts
+pub record Two (A B : List Key → Type 0) (ks : List Key) : Type 0 where
+  pub first : List Key
+  pub second : List Key
+  pub one : A first
+  pub other : B second
+  pub is : ks ≡ first ++ second
+
+module _ {g : Key → List ℕ} {Has : List Key → Type 0} {v p out room n : ℕ} {s k : List ℕ} where
+  pub going-from : {Left : List Key → Type 0} → ((ks : List Key) → Has ks → Left ks) → Going g Has Left v p out room n s k s k n
+  unfolding put-none
+  going-from f = record { so = put-none refl (λ ks z. absurd z); left = λ ks h. record { more = ks; has = f ks h; all = refl } }
+
+  pub going-start : Going g Has Has v p out room n s k s k n
+  going-start = going-from (λ ks h. h)
+
+  module _ {Left : List Key → Type 0} {s' k' : List ℕ} {m : ℕ} (l : Going g Has Left v p out room n s k s' k' m) where
+    -- nothing is left
+    pub going-end : ((ks : List Key) → Left ks → ks ≡ []) → Put g Has v p out room n s k s' k' m
+    going-end h =
+        put-as (l .so)
+        (λ ks a. let r = l .left ks a in
+        sym (append-nil (l .so .put)) ∙ ap (λ (x : List Key). l .so .put ++ x) (sym (h (r .more) (r .has))) ∙ r .all)
+
+    -- the first of what is left is put
+    pub going-on : {Item Left′ : List Key → Type 0} {s'' k'' : List ℕ} {r : ℕ} → Put g Item v p out room m s' k' s'' k'' r
+        → ((ks : List Key) → Left ks → Two Item Left′ ks) → Going g Has Left′ v p out room n s k s'' k'' r
+    unfolding put-then
+    going-on i split =
+        record {
+          so = put-then (l .so) i;
+          left = λ ks a.
+              let r = l .left ks a in
+              let t = split (r .more) (r .has) in
+              record {
+                more = t .second;
+                has = t .other;
+                all =
+                    append-assoc (l .so .put) (i .put) (t .second)
+                    ∙ ap (λ (x : List Key). l .so .put ++ x) (ap (λ (x : List Key). x ++ t .second) (i .are (t .first) (t .one)) ∙ sym (t .is))
+                    ∙ r .all;
+              };
+        }
+
+-- what stands before `out` is read as it was
+pub front-part : (out a e : ℕ) (s s' : List ℕ) → take out s' ≡ take out s → length s' ≡ length s → a ≤ e → e ≤ out → e ≤ length s → part a e s' ≡ part a e s
+front-part out a e s s' f l h o i =
+    let n : a + (e - a) ≡ e = omega arith in
+    let x : take e s' ≡ take e s = sym (take-take e out s' o) ∙ ap (take e) f ∙ take-take e out s o in
+    let same : drop a (take (a + (e - a)) s') ≡ drop a (take (a + (e - a)) s) = rw n (ap (drop a) x) in
+    region-drop s' a (e - a) (omega arith) ∙ same ∙ sym (region-drop s a (e - a) (omega arith))
+
+take-inside : (m i e : ℕ) (s : List ℕ) → i + m ≤ e → take m (drop i (take e s)) ≡ take m (drop i s)
+take-inside m zero e s h = take-take m e s (omega arith)
+take-inside m (suc i) zero s h = absurd (omega arith)
+take-inside m (suc i) (suc e) [] h = refl
+take-inside m (suc i) (suc e) (x ∷ s) h = take-inside m i e s (omega arith)
+
+-- a part of a part
+pub part-inside : (s : List ℕ) (a e i j : ℕ) → i ≤ j → a + j ≤ e → part i j (part a e s) ≡ part (a + i) (a + j) s
+part-inside s a e i j h l =
+    let n : j - i ≡ a + j - (a + i) = omega arith in
+    take-inside (j - i) i (e - a) (drop a s) (omega arith) ∙ rw (drop-drop i a s, n)
+
+-- the last part of a part
+pub part-rest : (s : List ℕ) (a e i : ℕ) → a + i ≤ e → e ≤ length s → part i (length (part a e s)) (part a e s) ≡ part (a + i) e s
+part-rest s a e i h l =
+    let n : length (part a e s) ≡ e - a = length-part s a e l in
+    let m : a + (e - a) ≡ e = omega arith in
+    let q : part i (e - a) (part a e s) ≡ part (a + i) (a + (e - a)) s = part-inside s a e i (e - a) (omega arith) (omega arith) in
+    rw n (q ∙ ap (λ (j : ℕ). part (a + i) j s) m)

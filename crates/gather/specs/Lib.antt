@@ -1,0 +1,3 @@
+pub mod KeySlots
+pub mod Walks
+pub mod Gathered

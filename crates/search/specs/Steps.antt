@@ -1,0 +1,48 @@
+-- The steps of a search: how it goes down to a node, and which keys it takes. Assumes nothing: these are definitions.
+use Prim.Native.Nat.{ℕ, _+_, _-_, _≤_}
+use mathlib.Core.Path.{_≡_}
+use mathlib.Core.Bool.{Bool, true, cond, _&&_}
+use mathlib.Core.List.{List, [], _∷_}
+use lib.ListN.{length, take}
+use lib.Dec.{eqb, leb}
+use Rattle.matcher.specs.declared.reach.Answer.{Answer}
+use Rattle.matcher.specs.declared.reach.Answer.the-variants.{Match, Mismatch, Incomplete}
+use Rattle.rows.specs.Sizes.{valueSize, rowSize}
+use Rattle.trie_theory.specs.Forest.{Strings, Key, join}
+use Rattle.trie_theory.specs.Dimensions.{Above, root, below}
+use Rattle.trie_theory.specs.Search.{enters}
+use Rattle.entries.specs.Query.{Query, reaches, wants}
+use Rattle.trie_read.specs.Shape.{part}
+use Rattle.gather.specs.KeySlots.{endedLimit, hasSlot, keySlot, known}
+
+-- the answer of both dimensions together
+abbrev pub both : Answer → Answer → Answer
+both Mismatch p = Mismatch
+both Match p = p
+both Incomplete Mismatch = Mismatch
+both Incomplete Match = Incomplete
+both Incomplete Incomplete = Incomplete
+
+-- tries are a body: of a node of a kind, or of none, for which 256 stands, since no byte is that
+abbrev pub rootKind : ℕ
+rootKind = 256
+
+-- what stands above them
+unfoldable pub over : ℕ → Above
+over kind = cond (eqb kind rootKind) root (below (kind - 1))
+
+-- a search takes the keys that match; on bytes that are no sound trie's, of those that have a slot
+unfoldable pub takes : Query → Key → Bool
+takes q x = hasSlot x && wants q x
+
+-- the row of a key
+unfoldable pub keyRow : Key → List ℕ
+keyRow x = take rowSize (keySlot x)
+
+-- The step to a node of the bytes t, whose strings are t[7..path] and t[path..body]: its strings have room behind the known bytes, and a search enters it
+pub record Descended (q : Query) (kind v p : ℕ) (t : List ℕ) (path body : ℕ) (k k' : List ℕ) (r : Bool) : Type 0 where
+  pub is : r
+      ≡ (leb (v + (path - 7)) valueSize && leb (p + (body - path)) endedLimit)
+      && enters (reaches q) (over kind) (known v p k) (part 7 path t ∷ part path body t ∷ [])
+  pub joins : r ≡ true → known (v + (path - 7)) (p + (body - path)) k' ≡ join (known v p k) (part 7 path t ∷ part path body t ∷ [])
+  pub kept : known v p k' ≡ known v p k

@@ -1,0 +1,17 @@
+pub mod Turning
+pub mod Sets
+pub mod Sharing
+pub mod Splitting
+pub mod Scatter
+pub mod Slotted
+pub mod ScatterTurn
+pub mod Writing
+pub mod Wrote
+pub mod Columns
+pub mod Runs
+pub mod Noding
+pub mod Frames
+pub mod Going
+pub mod Opening
+pub mod Building
+pub mod Level

@@ -1,0 +1,35 @@
+-- The slots passed have the first one's byte. Assumes nothing.
+use borrow.Author.Needs.{needs}
+use borrow.Author.Count.{below-more}
+use native.Mathlib.Omega.{arith}
+use Prim.Native.Nat.{ℕ, _+_, _*_, _-_, _≤_, _<_}
+use mathlib.Core.Path.{_≡_, refl, sym, ap, _∙_}
+use lib.ListN.{length, getD}
+use Rattle.trie_build.specs.Positions.{slotByte}
+use Rattle.trie_build.specs.Build.{Run}
+use Rattle.trie_build.proofs.Sets.{slot-zero}
+use Rattle.trie_build.proofs.build.run.Statement.{statement}
+use Rattle.trie_build.proofs.build.run.Tie as tie
+
+abbrev Inv-loop : tie.InvT-loop
+Inv-loop slots n column byte k₀ k = (1 ≤ k) × (k ≤ n) × ((i : ℕ) → i < k → slotByte slots i column ≡ byte)
+
+abbrev μ-loop : tie.MeasureT-loop
+μ-loop slots n column byte k₀ k = n - k
+
+pub run-spec : {M : Type 1} → statement M
+run-spec =
+    tie.close
+    (tie.spec
+    Inv-loop
+    μ-loop
+    (λ c. search needs)
+    (λ c. (omega arith, omega arith, λ i h. slot-zero (c .before .args .slots .now) i (c .before .args .column) (omega arith)))
+    (λ c. search needs)
+    (λ c. search needs)
+    (λ c. search needs)
+    (λ c. let l = c .before .before .before .loop .inv in record { some = omega arith; most = omega arith; alike = l .2; ends = λ h. c .if1 .taken })
+    (λ c. search needs)
+    (λ c. search needs)
+    (λ c. (omega arith, omega arith, below-more _ _ (c .before .before .before .loop .inv .2) (c .if1 .left)))
+    (λ c. let l = c .before .loop .inv in record { some = omega arith; most = omega arith; alike = l .2; ends = λ h e. omega arith }))

@@ -1,0 +1,5 @@
+pub mod Sets
+pub mod Positions
+pub mod Partition
+pub mod Nodes
+pub mod Build

@@ -1,0 +1,130 @@
+// The level builder (Definitions 7 and 8): one node for a set, and the builder again for each of its parts.
+use crate::nodes::put_head;
+use crate::nodes::put_strings;
+use crate::nodes::put_suffixes;
+use crate::partition::partition;
+use crate::positions::Shape;
+use crate::positions::split;
+use entries::SLOT_SIZE;
+use rows::sizes::PATH_AT;
+ghost use mathlib.Core.Path.{_≡_};
+ghost use mathlib.Core.Bool.{true};
+ghost use Prim.Native.Nat.{_+_, _*_, _^_, _≤_, _<_};
+ghost use lib.ListN.{length, drop};
+ghost use Rattle.entries.specs.Slots.{slotSize};
+ghost use Rattle.trie_theory.specs.Strings.{at};
+ghost use Rattle.trie_theory.specs.Position.{shared};
+ghost use Rattle.trie_theory.specs.Level.{levelOf};
+ghost use Rattle.trie_theory.specs.Encode.{encode};
+ghost use Rattle.trie_build.specs.Sets.{keysOf, shortPaths};
+ghost use Rattle.trie_build.specs.Build.{entryRoom, Built, Ready, trieBytes, columnOf, Run, Opened};
+
+// How many of the first slots have the first one's byte in a column.
+fn run(slots: &[u8], n: usize, column: usize) -> usize
+    requires { ⌜ (0 < n) × (n * slotSize ≤ length (now slots)) × (column < slotSize) ⌝ }
+    ensures { λ r. ⌜ Run (now (slots .entry)) n column r ⌝ }
+{
+    let byte = slots[column];
+    let mut k: usize = 1;
+    while k < n {
+        if slots[k * SLOT_SIZE + column] != byte {
+            return k;
+        }
+        k += 1;
+    }
+    k
+}
+
+// Where in a slot the byte stands at which the keys of a node part.
+fn column_of(kind: usize, value: usize, path: usize) -> usize
+    requires { ⌜ (value < slotSize) × (path < slotSize) ⌝ }
+    ensures { λ r. ⌜ r ≡ columnOf kind value path ⌝ }
+{
+    if kind >= 2 {
+        return PATH_AT + path;
+    }
+    value
+}
+
+// Splits the set and writes the strings of its node, behind room for the head.
+fn open_node(
+    s: &mut [u8],
+    out: usize,
+    slots: usize,
+    n: usize,
+    tau: usize,
+    above: usize,
+    vabove: usize,
+    pabove: usize,
+) -> Shape
+    requires { ⌜ (0 < n) × (above ≤ 2) × (shortPaths n (drop slots (now s)) ≡ true) × (vabove ≤ length (at 0 (shared (keysOf n (drop slots (now s)))))) × (pabove ≤ length (at 1 (shared (keysOf n (drop slots (now s)))))) × (out + length (trieBytes tau above vabove pabove (keysOf n (drop slots (now s)))) ≤ slots) × (slots + n * slotSize ≤ length (now s)) ⌝ }
+    ensures { λ r. ⌜ Opened (now (s .entry)) out slots n tau above vabove pabove (now (s .exit)) (r .kind) (r .value) (r .path) ⌝ }
+{
+    let end = slots + n * SLOT_SIZE;
+    let own = split(&s[slots..end], n, tau, above, vabove, pabove);
+    let value = own.value;
+    let path = own.path;
+    put_strings(s, out + 7, slots, vabove, value, pabove, path);
+    own
+}
+
+// Writes the trie of the set in `n` slots from `out` on, and returns where it ends. The node above has the kind `above` (0 at the root)
+// and knows `vabove` and `pabove` bytes.
+fn build(
+    s: &mut [u8],
+    out: usize,
+    slots: usize,
+    scratch: usize,
+    n: usize,
+    tau: usize,
+    above: usize,
+    vabove: usize,
+    pabove: usize,
+) -> usize
+    requires { ⌜ Ready (now s) out slots scratch n tau above vabove pabove ⌝ }
+    ensures { λ r. ⌜ Built (now (s .entry)) out slots scratch n (trieBytes tau above vabove pabove (keysOf n (drop slots (now (s .entry))))) (now (s .exit)) × (r ≡ out + length (trieBytes tau above vabove pabove (keysOf n (drop slots (now (s .entry)))))) ⌝ }
+{
+    let own = open_node(s, out, slots, n, tau, above, vabove, pabove);
+    let kind = own.kind;
+    let value = own.value;
+    let path = own.path;
+    let body = out + 7 + (value - vabove) + (path - pabove);
+    if kind == 0 {
+        let stop = put_suffixes(s, body, slots, n, value, path);
+        put_head(s, out, 0, value - vabove, path - pabove, stop - body);
+        return stop;
+    }
+    let column = column_of(kind, value, path);
+    partition(s, slots, scratch, n, column);
+    let end = slots + n * SLOT_SIZE;
+    let mut i: usize = 0;
+    let mut o = body;
+    while i < n {
+        let from = slots + i * SLOT_SIZE;
+        let m = run(&s[from..end], n - i, column);
+        o = build(s, o, from, scratch, m, tau, kind, value, path);
+        i += m;
+    }
+    put_head(s, out, kind, value - vabove, path - pabove, o - body);
+    o
+}
+
+// Writes the level of the keys in `n` slots (in row sequence) from `out` on, and returns how many bytes it has. The slots stand behind the
+// room for it, the scratch stretch behind the slots; both have some bytes afterwards.
+pub fn build_level(
+    s: &mut [u8],
+    out: usize,
+    slots: usize,
+    scratch: usize,
+    n: usize,
+    tau: usize,
+) -> usize
+    requires { ⌜ (shortPaths n (drop slots (now s)) ≡ true) × (out + entryRoom * n ≤ slots) × (slots + n * slotSize ≤ scratch) × (scratch + n * slotSize ≤ length (now s)) × (entryRoom * n < 2 ^ 32) ⌝ }
+    ensures { λ r. ⌜ Built (now (s .entry)) out slots scratch n (encode (levelOf 2 tau (keysOf n (drop slots (now (s .entry)))))) (now (s .exit)) × (r ≡ length (encode (levelOf 2 tau (keysOf n (drop slots (now (s .entry))))))) ⌝ }
+{
+    if n == 0 {
+        return 0;
+    }
+    let stop = build(s, out, slots, scratch, n, tau, 0, 0, 0);
+    stop - out
+}
