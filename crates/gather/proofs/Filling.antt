@@ -101,6 +101,17 @@ short-slot x h =
     let p = at 1 (x .strings) in
     rw (slot-parts x, parts-length (at 0 (x .strings)) (x .reference) p (w .value) (w .reference) (w .short)) (le-leb (length p - 1) pathLimit (omega (arith, w .short)))
 
+-- what stands in a slot
+pub slot-value : (x : Key) → hasSlot x ≡ true → take valueSize (keySlot x) ≡ at 0 (x .strings)
+unfolding parts
+slot-value x h = rw (slot-parts x) (take-at (at 0 (x .strings)) _ valueSize (slotted x h .value))
+
+pub slot-path : (x : Key) → hasSlot x ≡ true → region (keySlot x) pathAt (length (at 1 (x .strings))) ≡ at 1 (x .strings)
+slot-path x h =
+    let w = slotted x h in
+    let p = at 1 (x .strings) in
+    rw (slot-parts x, parts-path (at 0 (x .strings)) (x .reference) p (w .value) (w .reference) (w .short)) (take-at p _ (length p) refl)
+
 -- ---- the key of an entry
 
 pub entry-has : (e : Entry) → fitsRow e ≡ true → hasSlot (entryKey e) ≡ true

@@ -8,11 +8,11 @@ use lib.Dec.{eqb, leb}
 use Rattle.matcher.specs.declared.reach.Answer.{Answer}
 use Rattle.matcher.specs.declared.reach.Answer.the-variants.{Match, Mismatch, Incomplete}
 use Rattle.rows.specs.Sizes.{valueSize, rowSize}
-use Rattle.trie_theory.specs.Forest.{Strings, Key, join}
+use Rattle.trie_theory.specs.Forest.{Strings, Key, join, under}
 use Rattle.trie_theory.specs.Dimensions.{Above, root, below}
 use Rattle.trie_theory.specs.Search.{enters}
 use Rattle.entries.specs.Query.{Query, reaches, wants}
-use Rattle.trie_read.specs.Shape.{part}
+use Rattle.trie_read.specs.Shape.{part, keyOf}
 use Rattle.gather.specs.KeySlots.{endedLimit, hasSlot, keySlot, known}
 
 -- the answer of both dimensions together
@@ -31,6 +31,10 @@ rootKind = 256
 unfoldable pub over : ℕ → Above
 over kind = cond (eqb kind rootKind) root (below (kind - 1))
 
+-- the key of the first suffix in the bytes b, behind the bytes k
+abbrev pub suffixKey : Strings → List ℕ → ℕ → ℕ → Key
+suffixKey k b path next = under k (keyOf (part 22 path b) (part path next b) (part 2 22 b))
+
 -- a search takes the keys that match; on bytes that are no sound trie's, of those that have a slot
 unfoldable pub takes : Query → Key → Bool
 takes q x = hasSlot x && wants q x
@@ -45,4 +49,10 @@ pub record Descended (q : Query) (kind v p : ℕ) (t : List ℕ) (path body : �
       ≡ (leb (v + (path - 7)) valueSize && leb (p + (body - path)) endedLimit)
       && enters (reaches q) (over kind) (known v p k) (part 7 path t ∷ part path body t ∷ [])
   pub joins : r ≡ true → known (v + (path - 7)) (p + (body - path)) k' ≡ join (known v p k) (part 7 path t ∷ part path body t ∷ [])
+  pub kept : known v p k' ≡ known v p k
+
+-- The step to the key of the suffix in b[..next]: is it taken? Then the buffer is its slot
+pub record Taken (q : Query) (v p : ℕ) (b : List ℕ) (path next : ℕ) (k k' : List ℕ) (r : Bool) : Type 0 where
+  pub is : r ≡ takes q (suffixKey (known v p k) b path next)
+  pub slot : r ≡ true → k' ≡ keySlot (suffixKey (known v p k) b path next)
   pub kept : known v p k' ≡ known v p k
