@@ -43,7 +43,7 @@ pub joined-none : (g : Key → List ℕ) → joined g [] ≡ []
 unfolding joined flat
 joined-none g = refl
 
-all-both : {A : Type 0} (t : A → Bool) (xs ys : List A) → all t xs ≡ true → all t ys ≡ true → all t (xs ++ ys) ≡ true
+pub all-both : {A : Type 0} (t : A → Bool) (xs ys : List A) → all t xs ≡ true → all t ys ≡ true → all t (xs ++ ys) ≡ true
 all-both t [] ys a b = b
 all-both t (x ∷ xs) ys a b = and-both (and-left (t x) (all t xs) a) (all-both t xs ys (and-right (t x) (all t xs) a) b)
 
@@ -73,7 +73,7 @@ module _ {g : Key → List ℕ} {v p out room : ℕ} where
       }
 
   -- no key
-  pub put-none : {A : List Key → Type 0} {n : ℕ} {s k k' : List ℕ} → known v p k' ≡ known v p k → ((ks : List Key) → A ks → ks ≡ [])
+  unfoldable pub put-none : {A : List Key → Type 0} {n : ℕ} {s k k' : List ℕ} → known v p k' ≡ known v p k → ((ks : List Key) → A ks → ks ≡ [])
       → Put g A v p out room n s k s k' n
   put-none {A} {n} {s} {k} {k'} kept h =
       record {
@@ -88,7 +88,7 @@ module _ {g : Key → List ℕ} {v p out room : ℕ} where
       }
 
   -- some, and then some
-  pub put-then : {A B : List Key → Type 0} {n m r : ℕ} {s k s' k' s'' k'' : List ℕ}
+  unfoldable pub put-then : {A B : List Key → Type 0} {n m r : ℕ} {s k s' k' s'' k'' : List ℕ}
       → Put g A v p out room n s k s' k' m → Put g B v p out room m s' k' s'' k'' r → Put g Nothing v p out room n s k s'' k'' r
   put-then {A} {B} {n} {m} {r} {s} {k} {s'} {k'} {s''} {k''} a b =
       record {

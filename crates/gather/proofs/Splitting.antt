@@ -149,7 +149,7 @@ module _ {depth : ℕ} {k : Strings} {t : List ℕ} {r : Head} (is : (f : Forest
 abbrev pub Long : Strings → Type 0
 Long k = length (at 0 k) ≤ valueSize → length (at 1 k) ≤ endedLimit → ⊥
 
-join-longer : (i : ℕ) (k s : Strings) → length (at i k) ≤ length (at i (join k s))
+pub join-longer : (i : ℕ) (k s : Strings) → length (at i k) ≤ length (at i (join k s))
 unfolding join
 join-longer i [] s = omega arith
 join-longer i (a ∷ k) [] = omega arith
