@@ -466,3 +466,20 @@ module _ {Has : List Key → ℕ → Type 0} {q : Query} {kind depth v p room n 
           let rest = length-part t path start inside in
           let room : room? ≡ true = rw (← value, ← rest) fits in
           sym enters-now ∙ sym (and-true room? _ room) ∙ sym (down .is) ∙ y
+
+-- ---- a body
+
+-- of a leaf: its suffixes
+pub body-suffixes : {q : Query} {kind depth v p room n c r : ℕ} {k₀ : Strings} {t s k s' k' : List ℕ} → kind ≡ 0
+    → Searched (SuffixesFound q k₀ t) v p room n 0 s k s' k' r 0 → Searched (BodyFound q kind depth k₀ t) v p room n c s k s' k' r c
+body-suffixes z i =
+    record { rows = i .rows; nodes = i .nodes; count = omega (arith, i .count); are = λ ks e b. i .are ks e (b .leaf z) }
+
+-- of which no node is left to enter
+pub body-low : {q : Query} {kind depth v p room n c : ℕ} {k₀ : Strings} {t s k : List ℕ} → (kind ≡ 0 → ⊥) → depth ≡ 0
+    → Searched (BodyFound q kind depth k₀ t) v p room n c s k s k n c
+body-low {q} {kind} {k₀ = k₀} z d =
+    searched-none refl
+    (λ ks e b. let w = b .inner z in
+    let f = found-low (reaches q) (takes q) (over kind) k₀ (w .tries) (omega (arith, w .high)) in
+    (w .is ∙ f .0, w .entered ∙ f .1))

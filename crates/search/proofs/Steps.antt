@@ -7,7 +7,7 @@ use native.Mathlib.Omega.{arith}
 use lib.ListN.{length, take, drop, length-append, length-take, length-drop}
 use lib.Dec.{eqb, leb, ltb}
 use lib.Seq.{take-add, drop-at, drop-drop, length-take-le, take-at, take-take}
-use borrow.Author.Tests.{eq-eqb, ne-eqb, lt-ltb, le-ltb}
+use borrow.Author.Tests.{eq-eqb, ne-eqb, lt-ltb, le-ltb, leb-true}
 use Rattle.buffer.specs.Splice.{region}
 use Rattle.buffer.proofs.Splice.{region-drop, length-region}
 use Rattle.matcher.specs.Reach.{reachOf, goesOn}
@@ -26,7 +26,7 @@ use Rattle.gather.proofs.Filling.{slotted, slot-value, slot-path, slot-kept}
 use Rattle.gather.proofs.Stepping.{entered-room}
 use Rattle.trie_read.specs.Shape.{part, keyOf}
 use Rattle.trie_read.proofs.Stretch.{length-part}
-use Rattle.buffer.proofs.Tests.{not-both}
+use Rattle.buffer.proofs.Tests.{not-both, and-left, and-right}
 use Rattle.search.specs.Asked.{asked}
 use Rattle.search.specs.Steps.{both, rootKind, over, takes, suffixKey, Descended, Taken}
 
@@ -153,6 +153,15 @@ descended {q} {kind} {v} {p} {path} {body} {t} {k} {k'} e long long' order insid
 
 pub not-descended : {q : Query} {kind v p path body : ℕ} {t k k' : List ℕ} → Entered v p t path body k k' false → Descended q kind v p t path body k k' false
 not-descended e = record { is = rw (← e .is); joins = λ z. not-both z refl; kept = e .kept }
+
+-- a node that a search goes down to has room
+pub descended-room : {q : Query} {kind v p path body : ℕ} {t k k' : List ℕ} {r : Bool} → Descended q kind v p t path body k k' r → r ≡ true
+    → (v + (path - 7) ≤ valueSize) × (p + (body - path) ≤ endedLimit)
+descended-room {v = v} {p} {path} {body} e y =
+    let a = leb (v + (path - 7)) valueSize in
+    let b = leb (p + (body - path)) endedLimit in
+    let both = and-left (a && b) _ (sym (e .is) ∙ y) in
+    (leb-true (v + (path - 7)) valueSize (and-left a b both), leb-true (p + (body - path)) endedLimit (and-right a b both))
 
 -- ---- the step to a key
 

@@ -62,3 +62,74 @@ fn suffixes(
         }
     }
 }
+
+// The same of the body of a node of a kind: of its suffixes, if it is a leaf, else of its children, at most `depth` nodes one below the other.
+// Tries that stand below no node are a body of the kind ROOT.
+fn walk(
+    body: &[u8],
+    kind: usize,
+    pattern: &[u8],
+    low: u64,
+    high: u64,
+    key: &mut [u8],
+    v: usize,
+    p: usize,
+    depth: usize,
+    answer: &mut [u8],
+    room: usize,
+    rows: usize,
+    nodes: usize,
+) -> Found
+    requires { ⌜ Ready (now pattern) (now body) (now key) (now answer) v p room rows nodes ⌝ }
+    ensures { λ r. ⌜ (r .rows ≤ rows + length (now (body .entry))) × (r .nodes ≤ nodes + length (now (body .entry))) ⌝ }
+    ensures { λ r.
+        ⌜ Searched (BodyFound (asked (now (pattern .entry)) low high) kind depth (known v p (now (key .entry))) (now (body .entry))) v p room rows nodes (now (answer .entry)) (now (key .entry)) (now (answer .exit)) (now (key .exit)) (r .rows) (r .nodes) ⌝ }
+{
+    if kind == 0 {
+        let m = suffixes(body, pattern, low, high, key, v, p, answer, room, rows);
+        return Found { rows: m, nodes };
+    }
+    if depth == 0 {
+        return Found { rows, nodes };
+    }
+    let mut t = body;
+    let mut m = rows;
+    let mut n = nodes;
+    loop {
+        match read_head(t) {
+            Head::Node {
+                kind: own,
+                path,
+                body: start,
+                next,
+            } => {
+                if descend(key, v, p, t, path, start, kind, pattern, low, high) {
+                    let found = walk(
+                        &t[start..next],
+                        own,
+                        pattern,
+                        low,
+                        high,
+                        key,
+                        v + (path - 7),
+                        p + (start - path),
+                        depth - 1,
+                        answer,
+                        room,
+                        m,
+                        n + 1,
+                    );
+                    m = found.rows;
+                    n = found.nodes;
+                }
+                t = &t[next..];
+            }
+            Head::End => {
+                return Found { rows: m, nodes: n };
+            }
+            Head::Bad => {
+                return Found { rows: m, nodes: n };
+            }
+        }
+    }
+}
