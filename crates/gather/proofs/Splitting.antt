@@ -194,7 +194,7 @@ long-known k a b v p lk lv lp e h g =
 
 -- ---- the root: nothing is known
 
-blank : (s : Strings) → length s ≡ 2 → join ([] ∷ [] ∷ []) s ≡ s
+pub blank : (s : Strings) → length s ≡ 2 → join ([] ∷ [] ∷ []) s ≡ s
 unfolding join
 blank [] h = absurd (omega arith)
 blank (a ∷ []) h = absurd (omega arith)

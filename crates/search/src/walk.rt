@@ -12,11 +12,14 @@ use trie_read::head::read_head;
 use trie_read::suffixes::Tail;
 use trie_read::suffixes::read_suffix;
 ghost use mathlib.Core.Path.{_≡_};
-ghost use Prim.Native.Nat.{_+_, _≤_};
+ghost use mathlib.Core.Bool.{true};
+ghost use Prim.Native.Nat.{_+_, _*_, _<_, _≤_};
 ghost use lib.ListN.{length};
+ghost use Rattle.matcher.specs.Form.{patternForm, isFine};
+ghost use Rattle.rows.specs.Sizes.{rowSize};
 ghost use Rattle.gather.specs.KeySlots.{known};
 ghost use Rattle.search.specs.Asked.{asked};
-ghost use Rattle.search.specs.Searches.{Searched, SuffixesFound, BodyFound, Ready};
+ghost use Rattle.search.specs.Searches.{Searched, SuffixesFound, BodyFound, Ready, TrieSearched};
 
 // Rows found, and nodes entered.
 pub struct Found {
@@ -132,4 +135,38 @@ fn walk(
             }
         }
     }
+}
+
+// Searches one trie, behind the rows and nodes of others. The pattern is formed.
+pub fn search_trie(
+    tries: &[u8],
+    pattern: &[u8],
+    low: u64,
+    high: u64,
+    answer: &mut [u8],
+    room: usize,
+    rows: usize,
+    nodes: usize,
+) -> Found
+    requires { ⌜ isFine (patternForm (now pattern)) ≡ true ⌝ }
+    requires { ⌜ (room * rowSize ≤ length (now answer)) × (rows + length (now tries) < 18446744073709551616) × (nodes + length (now tries) < 18446744073709551616) ⌝ }
+    ensures { λ r.
+        ⌜ TrieSearched (asked (now (pattern .entry)) low high) (now (tries .entry)) room rows nodes (now (answer .entry)) (now (answer .exit)) (r .rows) (r .nodes) ⌝ }
+{
+    let mut key = [0u8; SLOT_SIZE];
+    walk(
+        tries,
+        ROOT,
+        pattern,
+        low,
+        high,
+        &mut key,
+        0,
+        0,
+        NODE_LIMIT,
+        answer,
+        room,
+        rows,
+        nodes,
+    )
 }
