@@ -1,7 +1,7 @@
 -- Keys put one after another: what the steps of a walk together put. One set of laws for loops over suffixes and over siblings, for slots
 -- and for rows. Assumes nothing.
-use mathlib.Core.Path.{_≡_, refl, sym, ap, ap₂, _∙_}
-use mathlib.Core.Bool.{Bool, true, false, cond, _&&_}
+use mathlib.Core.Path.{_≡_, refl, sym, ap, _∙_}
+use mathlib.Core.Bool.{Bool, true, cond}
 use mathlib.Core.Logic.{_⊎_, inl, inr, ⊎-elim}
 use Prim.Native.Nat.{ℕ, zero, suc, _+_, _-_, _*_, _≤_, _<_}
 use mathlib.Core.List.{List, [], _∷_, _++_, append-assoc, append-nil, map}
@@ -12,13 +12,13 @@ use lib.ListN.{length, take, drop, length-append, length-map}
 use lib.Dec.{ltb}
 use lib.Seq.{take-all, take-append-le, take-take, drop-drop}
 use borrow.Author.Tests.{lt-ltb, le-ltb, eq-eqb}
-use Rattle.buffer.specs.Lists.{all, pick, flat}
+use Rattle.buffer.specs.Lists.{all, flat}
 use Rattle.buffer.specs.Splice.{splice}
 use Rattle.buffer.proofs.Lists.{map-append}
 use Rattle.buffer.proofs.Splice.{length-splice, splice-then, take-before, region-drop}
-use Rattle.buffer.proofs.Tests.{and-left, and-right, and-both, bool-ext}
+use Rattle.buffer.proofs.Tests.{and-left, and-right, and-both}
 use Rattle.rows.proofs.Records.{length-joined, wide, record-inside}
-use Rattle.trie_theory.specs.Forest.{Strings, Key}
+use Rattle.trie_theory.specs.Forest.{Key}
 use Rattle.trie_read.specs.Shape.{part}
 use Rattle.trie_read.proofs.Stretch.{length-part}
 use Rattle.gather.specs.KeySlots.{hasSlot, known}

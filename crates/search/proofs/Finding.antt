@@ -1,8 +1,8 @@
 -- The turns of the loops of a search: rows put and nodes counted so far, and what is left. Assumes nothing.
-use mathlib.Core.Path.{_≡_, refl, sym, ap, ap₂, _∙_}
+use mathlib.Core.Path.{_≡_, refl, sym, ap, _∙_}
 use mathlib.Core.Bool.{Bool, true, false, cond, _&&_}
 use mathlib.Core.Logic.{⊎-elim}
-use Prim.Native.Nat.{ℕ, zero, suc, _+_, _-_, _*_, _≤_, _<_}
+use Prim.Native.Nat.{ℕ, suc, _+_, _-_, _*_, _≤_, _<_}
 use mathlib.Core.List.{List, [], _∷_, _++_, append-assoc, append-nil, map}
 use native.Mathlib.Omega.{arith}
 use lib.ListN.{length, take, length-append}
@@ -23,7 +23,7 @@ use Rattle.trie_theory.specs.Search.{enters, found, nodesEntered}
 use Rattle.trie_theory.specs.Encode.{Regular, encode}
 use Rattle.entries.specs.Slots.{slotSize}
 use Rattle.entries.specs.Query.{Query, reaches, wants}
-use Rattle.trie_read.specs.Shape.{part, Fixed, keyOf}
+use Rattle.trie_read.specs.Shape.{part, Fixed}
 use Rattle.trie_read.specs.Heads.{headOf}
 use Rattle.trie_read.specs.Suffixes.{suffixesBytes, tailOf}
 use Rattle.trie_read.specs.declared.head.Head.{Head}
@@ -31,16 +31,15 @@ use Rattle.trie_read.specs.declared.head.Head.the-variants as Head
 use Rattle.trie_read.specs.declared.suffixes.Tail.{Tail}
 use Rattle.trie_read.specs.declared.suffixes.Tail.the-variants.{End, Bad, At}
 use Rattle.trie_read.proofs.Node.{leaf-view, inner-view, head-end, head-good, strings-are}
-use Rattle.trie_read.proofs.Suffix.{Seen, tail-end, tail-good, tail-at}
-use Rattle.trie_read.proofs.Among.{two-strings}
+use Rattle.trie_read.proofs.Suffix.{tail-end, tail-good, tail-at}
 use Rattle.trie_read.proofs.Walking.{same?}
 use Rattle.trie_read.proofs.Stretch.{length-part}
-use Rattle.gather.specs.KeySlots.{endedLimit, hasSlot, keySlot, known}
+use Rattle.gather.specs.KeySlots.{endedLimit, hasSlot, keySlot, known, suffixKey}
 use Rattle.gather.specs.Walks.{Put}
 use Rattle.gather.proofs.Filling.{length-slot, known-less}
 use Rattle.gather.proofs.Putting.{put-none, put-then, put-one}
-use Rattle.gather.proofs.Splitting.{pick-one, pick-not}
-use Rattle.search.specs.Steps.{rootKind, over, takes, keyRow, suffixKey, Descended, Taken}
+use Rattle.gather.proofs.Splitting.{pick-one, pick-not, seen-key, leaf-high, inner-high}
+use Rattle.search.specs.Steps.{rootKind, over, takes, keyRow, Descended, Taken}
 use Rattle.search.specs.Searches.{Searched, SuffixesFound, TriesFound, BodyFound, Short, Roomy}
 
 -- ---- a loop
@@ -163,9 +162,6 @@ searched-one {room = room} {n = n} q x s s' t fits is kept =
       are = λ ks e a. (one .are ks (a .0 ∙ pick-one (takes q) x t), sym (a .1));
     }
 
-seen-key : {t : List ℕ} {ts : List Key} {path next : ℕ} (v : Seen t ts path next) → keyOf (part 22 path t) (part path next t) (part 2 22 t) ≡ v .t
-seen-key v = rw (v .places .value-is, v .places .path-is, v .places .reference-is) (sym (two-strings (v .t) (v .own .0)))
-
 none-taken : (q : Query) (k : Strings) (ts : List Key) → ts ≡ [] → pick (takes q) (map (under k) ts) ≡ []
 unfolding pick
 none-taken q k ts e = rw e
@@ -254,14 +250,6 @@ module _ (reach : Strings → Bool) (m : Key → Bool) (above : Above) (k : Stri
         × (nodesEntered reach above k (inner d s kids more) ≡ nodesEntered reach above k more)
     unfolding found nodesEntered
     inner-out d kids e = (rw e, rw e (omega arith))
-
-leaf-high : (depth : ℕ) (s : Strings) (ts : List Key) (more : Forest) → height (leaf s ts more) ≤ depth → height more ≤ depth
-unfolding height
-leaf-high depth s ts more h = omega arith
-
-inner-high : (depth d : ℕ) (s : Strings) (kids more : Forest) → height (inner d s kids more) ≤ depth → (height kids ≤ depth - 1) × (height more ≤ depth)
-unfolding height
-inner-high depth d s kids more h = (omega arith, omega arith)
 
 leaf-roomy : (k s : Strings) (ts : List Key) (more : Forest) → Roomy k (leaf s ts more) → Short (join k s) × Roomy k more
 unfolding Roomy

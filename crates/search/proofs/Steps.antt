@@ -1,13 +1,13 @@
 -- The steps of a search. Assumes nothing.
-use mathlib.Core.Path.{_≡_, refl, sym, ap, ap₂, _∙_}
+use mathlib.Core.Path.{_≡_, refl, sym, ap, _∙_}
 use mathlib.Core.Bool.{Bool, true, false, cond, _&&_}
-use Prim.Native.Nat.{ℕ, zero, suc, _+_, _-_, _≤_, _<_}
-use mathlib.Core.List.{List, [], _∷_, _++_, append-nil}
+use Prim.Native.Nat.{ℕ, zero, suc, _+_, _-_, _≤_}
+use mathlib.Core.List.{List, [], _∷_, _++_}
 use native.Mathlib.Omega.{arith}
-use lib.ListN.{length, take, drop, length-append, length-take, length-drop}
+use lib.ListN.{length, take, drop, length-append, length-drop}
 use lib.Dec.{eqb, leb, ltb}
-use lib.Seq.{take-add, drop-at, drop-drop, length-take-le, take-at, take-take}
-use borrow.Author.Tests.{eq-eqb, ne-eqb, lt-ltb, le-ltb, leb-true}
+use lib.Seq.{take-add, drop-at, drop-drop, length-take-le}
+use borrow.Author.Tests.{eq-eqb, ne-eqb, lt-ltb, leb-true}
 use Rattle.buffer.specs.Splice.{region}
 use Rattle.buffer.proofs.Splice.{region-drop, length-region}
 use Rattle.matcher.specs.Reach.{reachOf, goesOn}
@@ -16,19 +16,17 @@ use Rattle.matcher.specs.declared.reach.Answer.the-variants.{Match, Mismatch, I
 use Rattle.rows.specs.Sizes.{valueSize, pathAt}
 use Rattle.trie_theory.specs.Forest.{Strings, Key, join, under}
 use Rattle.trie_theory.specs.Strings.{at}
-use Rattle.trie_theory.specs.Dimensions.{Above, root, below}
 use Rattle.trie_theory.specs.Search.{branch, enters}
 use Rattle.entries.specs.Slots.{slotSize}
 use Rattle.entries.specs.Query.{Query, valueReach, reaches, wants, isMatch}
-use Rattle.gather.specs.KeySlots.{endedLimit, hasSlot, keySlot, known}
+use Rattle.gather.specs.KeySlots.{endedLimit, hasSlot, keySlot, known, suffixKey}
 use Rattle.gather.specs.Walks.{Entered}
 use Rattle.gather.proofs.Filling.{slotted, slot-value, slot-path, slot-kept}
 use Rattle.gather.proofs.Stepping.{entered-room}
-use Rattle.trie_read.specs.Shape.{part, keyOf}
+use Rattle.trie_read.specs.Shape.{part}
 use Rattle.trie_read.proofs.Stretch.{length-part}
 use Rattle.buffer.proofs.Tests.{not-both, and-left, and-right}
-use Rattle.search.specs.Asked.{asked}
-use Rattle.search.specs.Steps.{both, rootKind, over, takes, suffixKey, Descended, Taken}
+use Rattle.search.specs.Steps.{both, rootKind, over, takes, Descended, Taken}
 
 -- ---- both dimensions
 

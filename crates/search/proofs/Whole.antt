@@ -1,18 +1,17 @@
 -- A sound trie whose keys have slots: its nodes have room, and what the walk finds is what a search of it finds. Assumes nothing.
 use mathlib.Core.Path.{_≡_, refl, sym, ap, ap₂, _∙_}
-use mathlib.Core.Bool.{Bool, true, false, cond, _&&_}
-use Prim.Native.Nat.{ℕ, zero, suc, _+_, _≤_, _<_}
+use mathlib.Core.Bool.{Bool, true, cond}
+use Prim.Native.Nat.{ℕ, _+_, _≤_}
 use mathlib.Core.List.{List, [], _∷_, _++_, map}
 use native.Mathlib.Omega.{arith}
 use lib.ListN.{length, take}
 use lib.Seq.{take-at}
-use Rattle.buffer.specs.Lists.{all, pick, flat}
+use Rattle.buffer.specs.Lists.{all, pick}
 use Rattle.buffer.proofs.Tests.{and-left, and-right, and-both}
-use Rattle.rows.specs.Sizes.{valueSize, rowSize, nodeLimit}
+use Rattle.rows.specs.Sizes.{rowSize, nodeLimit}
 use Rattle.rows.specs.Entry.{Entry, row, fitsRow}
 use Rattle.rows.proofs.Rows.{length-row}
 use Rattle.trie_theory.specs.Forest.{Strings, Key, Forest, none, leaf, inner, join, under, keys, tops}
-use Rattle.trie_theory.specs.Strings.{at}
 use Rattle.trie_theory.specs.Dimensions.{Above, root, below}
 use Rattle.trie_theory.specs.Sound.{Sound}
 use Rattle.trie_theory.specs.Search.{enters, found, nodesEntered}
@@ -20,11 +19,12 @@ use Rattle.trie_theory.specs.Encode.{Regular}
 use Rattle.entries.specs.Keys.{entryKey}
 use Rattle.entries.specs.Slots.{slot}
 use Rattle.entries.specs.Query.{Query, reaches, wants}
-use Rattle.gather.specs.KeySlots.{endedLimit, hasSlot, keySlot, known}
+use Rattle.gather.specs.KeySlots.{hasSlot, known}
 use Rattle.gather.proofs.Filling.{slotted, entry-slot}
+use Rattle.gather.proofs.Gathering.{known-nothing}
 use Rattle.gather.proofs.Splitting.{join-longer, blank, keys-root}
 use Rattle.search.specs.Steps.{rootKind, over, takes, keyRow}
-use Rattle.search.specs.Searches.{Searched, TrieSearched, TrieFound, TriesFound, BodyFound, Short, Roomy}
+use Rattle.search.specs.Searches.{Searched, TrieSearched, TrieFound, BodyFound, Short, Roomy}
 
 -- the row of an entry's key is the entry's
 pub entry-row : (e : Entry) → fitsRow e ≡ true → keyRow (entryKey e) ≡ row e
@@ -113,10 +113,6 @@ nodes-root reach none h = refl
 nodes-root reach (leaf s ts more) h = ap (λ (n : ℕ). 1 + n) (nodes-root reach more (h .2))
 nodes-root reach (inner d s kids more) h =
     ap₂ (λ (x y : ℕ). 1 + x + y) (ap (λ (l : Strings). nodesEntered reach (below d) l kids) (blank s (h .0))) (nodes-root reach more (h .2))
-
-known-nothing : (k : List ℕ) → known 0 0 k ≡ nothing
-unfolding known
-known-nothing k = refl
 
 over-root : over rootKind ≡ root
 unfolding over

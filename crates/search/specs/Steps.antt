@@ -1,19 +1,19 @@
 -- The steps of a search: how it goes down to a node, and which keys it takes. Assumes nothing: these are definitions.
-use Prim.Native.Nat.{ℕ, _+_, _-_, _≤_}
+use Prim.Native.Nat.{ℕ, _+_, _-_}
 use mathlib.Core.Path.{_≡_}
 use mathlib.Core.Bool.{Bool, true, cond, _&&_}
 use mathlib.Core.List.{List, [], _∷_}
-use lib.ListN.{length, take}
+use lib.ListN.{take}
 use lib.Dec.{eqb, leb}
 use Rattle.matcher.specs.declared.reach.Answer.{Answer}
 use Rattle.matcher.specs.declared.reach.Answer.the-variants.{Match, Mismatch, Incomplete}
 use Rattle.rows.specs.Sizes.{valueSize, rowSize}
-use Rattle.trie_theory.specs.Forest.{Strings, Key, join, under}
+use Rattle.trie_theory.specs.Forest.{Key, join}
 use Rattle.trie_theory.specs.Dimensions.{Above, root, below}
 use Rattle.trie_theory.specs.Search.{enters}
 use Rattle.entries.specs.Query.{Query, reaches, wants}
-use Rattle.trie_read.specs.Shape.{part, keyOf}
-use Rattle.gather.specs.KeySlots.{endedLimit, hasSlot, keySlot, known}
+use Rattle.trie_read.specs.Shape.{part}
+use Rattle.gather.specs.KeySlots.{endedLimit, hasSlot, keySlot, known, suffixKey}
 
 -- the answer of both dimensions together
 abbrev pub both : Answer → Answer → Answer
@@ -30,10 +30,6 @@ rootKind = 256
 -- what stands above them
 unfoldable pub over : ℕ → Above
 over kind = cond (eqb kind rootKind) root (below (kind - 1))
-
--- the key of the first suffix in the bytes b, behind the bytes k
-abbrev pub suffixKey : Strings → List ℕ → ℕ → ℕ → Key
-suffixKey k b path next = under k (keyOf (part 22 path b) (part path next b) (part 2 22 b))
 
 -- a search takes the keys that match; on bytes that are no sound trie's, of those that have a slot
 unfoldable pub takes : Query → Key → Bool

@@ -19,7 +19,6 @@ ghost use Rattle.rows.specs.Sizes.{valueSize, pathAt};
 ghost use Rattle.trie_theory.specs.Search.{enters};
 ghost use Rattle.entries.specs.Slots.{slotSize};
 ghost use Rattle.entries.specs.Query.{valueReach, reaches, isMatch};
-ghost use Rattle.trie_read.specs.Shape.{part};
 ghost use Rattle.gather.specs.KeySlots.{endedLimit, known};
 ghost use Rattle.search.specs.Asked.{asked};
 ghost use Rattle.search.specs.Steps.{both, over, Descended, Taken};

@@ -1,7 +1,6 @@
 -- The strings first, then the test on the buffer. Assumes nothing.
 use borrow.Author.Needs.{needs}
-use native.Mathlib.Omega.{arith}
-use mathlib.Core.Path.{_≡_, _∙_}
+use mathlib.Core.Path.{_∙_}
 use Rattle.gather.proofs.Stepping.{entered-room}
 use Rattle.search.proofs.Steps.{descended, not-descended}
 use Rattle.search.proofs.step.descend.Statement.{statement}

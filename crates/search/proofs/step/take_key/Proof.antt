@@ -1,7 +1,6 @@
 -- The slot first, then the test on it. Assumes nothing.
 use borrow.Author.Needs.{needs}
-use native.Mathlib.Omega.{arith}
-use mathlib.Core.Path.{_≡_, sym, _∙_}
+use mathlib.Core.Path.{sym, _∙_}
 use Rattle.search.specs.Asked.{asked}
 use Rattle.search.proofs.Steps.{taken-short, taken-slot, taken-none}
 use Rattle.search.proofs.step.take_key.Statement.{statement}
