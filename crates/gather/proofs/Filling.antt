@@ -1,23 +1,22 @@
 -- The key buffer: what a suffix and a node write into it. Assumes nothing.
 use mathlib.Core.Path.{_≡_, refl, sym, ap, ap₂, _∙_}
-use mathlib.Core.Bool.{Bool, true, false, cond, _&&_}
+use mathlib.Core.Bool.{true, false, _&&_}
 use Prim.Native.Nat.{ℕ, suc, _+_, _-_, _≤_, _<_}
 use mathlib.Core.List.{List, [], _∷_, _++_, append-assoc}
 use native.Mathlib.Omega.{arith}
-use lib.ListN.{length, take, drop, set, getD, replicate, length-append, length-replicate, length-take, replicate-append-replicate}
+use lib.ListN.{length, take, drop, set, getD, replicate, length-append, length-replicate, replicate-append-replicate}
 use lib.Dec.{eqb, leb, ltb}
-use lib.Seq.{length-take-le, take-take, take-append-le, take-at, drop-at, getD-at, drop-drop}
-use borrow.Author.Tests.{eqb-true, eq-eqb, ne-eqb, leb-true, le-leb, ltb-true, lt-ltb, lt-leb}
+use lib.Seq.{length-take-le, take-take, take-at, drop-at, getD-at}
+use borrow.Author.Tests.{eqb-true, eq-eqb, leb-true, le-leb, ltb-true, lt-ltb}
 use Rattle.buffer.specs.Splice.{splice, region}
 use Rattle.buffer.proofs.Splice.{length-splice, length-region, splice-from, splice-then, splice-snoc, splice-whole, region-after, region-before, region-at, region-add, take-splice, take-before}
-use Rattle.buffer.specs.Numbers.{bytesOf}
 use Rattle.buffer.proofs.Digits.{length-bytesOf}
 use Rattle.buffer.proofs.Tests.{and-left, and-right, and-both, not-true}
 use Rattle.matcher.specs.Bytes.{pathLimit}
 use Rattle.rows.specs.Sizes.{valueSize, referenceSize, referenceAt, lengthAt, pathAt, rowSize}
 use Rattle.rows.specs.Entry.{Entry, row, fitsRow}
 use Rattle.rows.proofs.Rows.{fits}
-use Rattle.trie_theory.specs.Forest.{Strings, Key, join, under}
+use Rattle.trie_theory.specs.Forest.{Key, join, under}
 use Rattle.trie_theory.specs.Strings.{at}
 use Rattle.entries.specs.Keys.{entryKey}
 use Rattle.entries.specs.Slots.{slotSize, slot, shortPath}
@@ -100,6 +99,17 @@ short-slot x h =
     let w = slotted x h in
     let p = at 1 (x .strings) in
     rw (slot-parts x, parts-length (at 0 (x .strings)) (x .reference) p (w .value) (w .reference) (w .short)) (le-leb (length p - 1) pathLimit (omega (arith, w .short)))
+
+-- what stands in a slot
+pub slot-value : (x : Key) → hasSlot x ≡ true → take valueSize (keySlot x) ≡ at 0 (x .strings)
+unfolding parts
+slot-value x h = rw (slot-parts x) (take-at (at 0 (x .strings)) _ valueSize (slotted x h .value))
+
+pub slot-path : (x : Key) → hasSlot x ≡ true → region (keySlot x) pathAt (length (at 1 (x .strings))) ≡ at 1 (x .strings)
+slot-path x h =
+    let w = slotted x h in
+    let p = at 1 (x .strings) in
+    rw (slot-parts x, parts-path (at 0 (x .strings)) (x .reference) p (w .value) (w .reference) (w .short)) (take-at p _ (length p) refl)
 
 -- ---- the key of an entry
 

@@ -1,6 +1,6 @@
 -- What the walk of a whole trie puts: the slots of its entries. Assumes nothing.
 use mathlib.Core.Path.{_≡_, refl, sym, ap, ap₂, _∙_}
-use mathlib.Core.Bool.{Bool, true, _&&_}
+use mathlib.Core.Bool.{Bool, true}
 use Prim.Native.Nat.{ℕ, zero, suc, _+_, _*_, _≤_, _<_}
 use mathlib.Core.List.{List, [], _∷_, _++_, append-nil, map}
 use native.Mathlib.Omega.{arith}
@@ -60,7 +60,7 @@ none-joined : (m : ℕ) → joined keySlot (take m []) ≡ []
 none-joined zero = joined-none keySlot
 none-joined (suc m) = joined-none keySlot
 
-known-nothing : (k : List ℕ) → known 0 0 k ≡ [] ∷ [] ∷ []
+pub known-nothing : (k : List ℕ) → known 0 0 k ≡ [] ∷ [] ∷ []
 unfolding known
 known-nothing k = refl
 

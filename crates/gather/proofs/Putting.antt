@@ -1,7 +1,7 @@
 -- Keys put one after another: what the steps of a walk together put. One set of laws for loops over suffixes and over siblings, for slots
 -- and for rows. Assumes nothing.
-use mathlib.Core.Path.{_≡_, refl, sym, ap, ap₂, _∙_}
-use mathlib.Core.Bool.{Bool, true, false, cond, _&&_}
+use mathlib.Core.Path.{_≡_, refl, sym, ap, _∙_}
+use mathlib.Core.Bool.{Bool, true, cond}
 use mathlib.Core.Logic.{_⊎_, inl, inr, ⊎-elim}
 use Prim.Native.Nat.{ℕ, zero, suc, _+_, _-_, _*_, _≤_, _<_}
 use mathlib.Core.List.{List, [], _∷_, _++_, append-assoc, append-nil, map}
@@ -12,13 +12,13 @@ use lib.ListN.{length, take, drop, length-append, length-map}
 use lib.Dec.{ltb}
 use lib.Seq.{take-all, take-append-le, take-take, drop-drop}
 use borrow.Author.Tests.{lt-ltb, le-ltb, eq-eqb}
-use Rattle.buffer.specs.Lists.{all, pick, flat}
+use Rattle.buffer.specs.Lists.{all, flat}
 use Rattle.buffer.specs.Splice.{splice}
 use Rattle.buffer.proofs.Lists.{map-append}
 use Rattle.buffer.proofs.Splice.{length-splice, splice-then, take-before, region-drop}
-use Rattle.buffer.proofs.Tests.{and-left, and-right, and-both, bool-ext}
+use Rattle.buffer.proofs.Tests.{and-left, and-right, and-both}
 use Rattle.rows.proofs.Records.{length-joined, wide, record-inside}
-use Rattle.trie_theory.specs.Forest.{Strings, Key}
+use Rattle.trie_theory.specs.Forest.{Key}
 use Rattle.trie_read.specs.Shape.{part}
 use Rattle.trie_read.proofs.Stretch.{length-part}
 use Rattle.gather.specs.KeySlots.{hasSlot, known}
@@ -43,7 +43,7 @@ pub joined-none : (g : Key → List ℕ) → joined g [] ≡ []
 unfolding joined flat
 joined-none g = refl
 
-all-both : {A : Type 0} (t : A → Bool) (xs ys : List A) → all t xs ≡ true → all t ys ≡ true → all t (xs ++ ys) ≡ true
+pub all-both : {A : Type 0} (t : A → Bool) (xs ys : List A) → all t xs ≡ true → all t ys ≡ true → all t (xs ++ ys) ≡ true
 all-both t [] ys a b = b
 all-both t (x ∷ xs) ys a b = and-both (and-left (t x) (all t xs) a) (all-both t xs ys (and-right (t x) (all t xs) a) b)
 
@@ -73,7 +73,7 @@ module _ {g : Key → List ℕ} {v p out room : ℕ} where
       }
 
   -- no key
-  pub put-none : {A : List Key → Type 0} {n : ℕ} {s k k' : List ℕ} → known v p k' ≡ known v p k → ((ks : List Key) → A ks → ks ≡ [])
+  unfoldable pub put-none : {A : List Key → Type 0} {n : ℕ} {s k k' : List ℕ} → known v p k' ≡ known v p k → ((ks : List Key) → A ks → ks ≡ [])
       → Put g A v p out room n s k s k' n
   put-none {A} {n} {s} {k} {k'} kept h =
       record {
@@ -88,7 +88,7 @@ module _ {g : Key → List ℕ} {v p out room : ℕ} where
       }
 
   -- some, and then some
-  pub put-then : {A B : List Key → Type 0} {n m r : ℕ} {s k s' k' s'' k'' : List ℕ}
+  unfoldable pub put-then : {A B : List Key → Type 0} {n m r : ℕ} {s k s' k' s'' k'' : List ℕ}
       → Put g A v p out room n s k s' k' m → Put g B v p out room m s' k' s'' k'' r → Put g Nothing v p out room n s k s'' k'' r
   put-then {A} {B} {n} {m} {r} {s} {k} {s'} {k'} {s''} {k''} a b =
       record {

@@ -2,7 +2,7 @@
 use mathlib.Core.Path.{_≡_, refl, sym, ap, ap₂, _∙_}
 use mathlib.Core.Bool.{Bool, true, false, _&&_}
 use mathlib.Core.Logic.{⊎-elim}
-use Prim.Native.Nat.{ℕ, zero, suc, _+_, _-_, _≤_, _<_}
+use Prim.Native.Nat.{ℕ, zero, suc, _+_, _-_, _≤_}
 use mathlib.Core.List.{List, [], _∷_, _++_, map}
 use native.Mathlib.Omega.{arith}
 use lib.ListN.{length, take, length-append}
@@ -31,7 +31,7 @@ use Rattle.trie_read.proofs.Node.{leaf-view, inner-view, head-end, head-good, s
 use Rattle.trie_read.proofs.Suffix.{Seen, tail-end, tail-good, tail-at}
 use Rattle.trie_read.proofs.Among.{two-strings}
 use Rattle.trie_read.proofs.Walking.{same?}
-use Rattle.gather.specs.KeySlots.{endedLimit, hasSlot, known}
+use Rattle.gather.specs.KeySlots.{endedLimit, hasSlot, known, suffixKey}
 use Rattle.gather.specs.Walks.{SuffixKeys, TrieKeys, BodyKeys}
 use Rattle.gather.proofs.Filling.{slotted}
 use Rattle.gather.proofs.Putting.{Two}
@@ -46,11 +46,8 @@ pick-not t x e = rw e
 
 -- ---- suffixes
 
--- the key of the first suffix, with its places
-abbrev pub suffixKey : Strings → List ℕ → ℕ → ℕ → Key
-suffixKey k t path next = under k (keyOf (part 22 path t) (part path next t) (part 2 22 t))
-
-seen-key : {t : List ℕ} {ts : List Key} {path next : ℕ} (v : Seen t ts path next) → keyOf (part 22 path t) (part path next t) (part 2 22 t) ≡ v .t
+-- the places show its key
+pub seen-key : {t : List ℕ} {ts : List Key} {path next : ℕ} (v : Seen t ts path next) → keyOf (part 22 path t) (part path next t) (part 2 22 t) ≡ v .t
 seen-key v = rw (v .places .value-is, v .places .path-is, v .places .reference-is) (sym (two-strings (v .t) (v .own .0)))
 
 none-picked : (k : Strings) (ts : List Key) → ts ≡ [] → pick hasSlot (map (under k) ts) ≡ []
@@ -100,11 +97,11 @@ inner-keys : (k s : Strings) (d : ℕ) (kids more : Forest) → pick hasSlot (ke
 unfolding keys
 inner-keys k s d kids more = pick-append hasSlot (keys (join k s) kids) (keys k more)
 
-leaf-high : (depth : ℕ) (s : Strings) (ts : List Key) (more : Forest) → height (leaf s ts more) ≤ depth → height more ≤ depth
+pub leaf-high : (depth : ℕ) (s : Strings) (ts : List Key) (more : Forest) → height (leaf s ts more) ≤ depth → height more ≤ depth
 unfolding height
 leaf-high depth s ts more h = omega arith
 
-inner-high : (depth d : ℕ) (s : Strings) (kids more : Forest) → height (inner d s kids more) ≤ depth → (height kids ≤ depth - 1) × (height more ≤ depth)
+pub inner-high : (depth d : ℕ) (s : Strings) (kids more : Forest) → height (inner d s kids more) ≤ depth → (height kids ≤ depth - 1) × (height more ≤ depth)
 unfolding height
 inner-high depth d s kids more h = (omega arith, omega arith)
 
@@ -149,7 +146,7 @@ module _ {depth : ℕ} {k : Strings} {t : List ℕ} {r : Head} (is : (f : Forest
 abbrev pub Long : Strings → Type 0
 Long k = length (at 0 k) ≤ valueSize → length (at 1 k) ≤ endedLimit → ⊥
 
-join-longer : (i : ℕ) (k s : Strings) → length (at i k) ≤ length (at i (join k s))
+pub join-longer : (i : ℕ) (k s : Strings) → length (at i k) ≤ length (at i (join k s))
 unfolding join
 join-longer i [] s = omega arith
 join-longer i (a ∷ k) [] = omega arith
@@ -194,7 +191,7 @@ long-known k a b v p lk lv lp e h g =
 
 -- ---- the root: nothing is known
 
-blank : (s : Strings) → length s ≡ 2 → join ([] ∷ [] ∷ []) s ≡ s
+pub blank : (s : Strings) → length s ≡ 2 → join ([] ∷ [] ∷ []) s ≡ s
 unfolding join
 blank [] h = absurd (omega arith)
 blank (a ∷ []) h = absurd (omega arith)

@@ -1,7 +1,7 @@
 -- The turns of the two loops: over the suffixes of a leaf, and over siblings. Assumes nothing.
 use mathlib.Core.Path.{_≡_, refl, sym, ap, ap₂, _∙_}
 use mathlib.Core.Bool.{Bool, true, false, cond, _&&_}
-use Prim.Native.Nat.{ℕ, _+_, _-_, _*_, _≤_, _<_}
+use Prim.Native.Nat.{ℕ, _+_, _-_, _*_, _≤_}
 use mathlib.Core.List.{List, [], _∷_}
 use native.Mathlib.Omega.{arith}
 use lib.ListN.{length}
@@ -11,10 +11,10 @@ use Rattle.buffer.proofs.Tests.{and-left, and-right}
 use Rattle.buffer.specs.Lists.{All, pick}
 use Rattle.buffer.specs.Splice.{splice}
 use Rattle.rows.specs.Sizes.{valueSize}
-use Rattle.trie_theory.specs.Forest.{Strings, Key, Forest, join, under}
+use Rattle.trie_theory.specs.Forest.{Strings, Key, Forest, join}
 use Rattle.trie_theory.specs.Encode.{Regular, encode}
 use Rattle.entries.specs.Slots.{slotSize}
-use Rattle.trie_read.specs.Shape.{part, Fixed, keyOf}
+use Rattle.trie_read.specs.Shape.{part, Fixed}
 use Rattle.trie_read.specs.Suffixes.{suffixesBytes, tailOf}
 use Rattle.trie_read.specs.Heads.{headOf}
 use Rattle.trie_read.specs.declared.head.Head.{Head}
@@ -22,11 +22,11 @@ use Rattle.trie_read.specs.declared.head.Head.the-variants as Head
 use Rattle.trie_read.specs.declared.suffixes.Tail.{Tail}
 use Rattle.trie_read.specs.declared.suffixes.Tail.the-variants.{End, Bad, At}
 use Rattle.trie_read.proofs.Stretch.{length-part}
-use Rattle.gather.specs.KeySlots.{endedLimit, hasSlot, keySlot, known}
+use Rattle.gather.specs.KeySlots.{endedLimit, hasSlot, keySlot, known, suffixKey}
 use Rattle.gather.specs.Walks.{Put, SuffixKeys, TrieKeys, BodyKeys, Entered, Ready}
 use Rattle.gather.proofs.Filling.{length-slot, slot-kept, known-less}
 use Rattle.gather.proofs.Putting.{Going, Two, put-as, put-none, put-one, going-end, going-on, front-part, part-inside, part-rest}
-use Rattle.gather.proofs.Splitting.{suffixKey, suffix-end, suffix-bad, suffix-split, pick-one, pick-not, low-keys, trie-end, trie-bad, trie-split, long-body, long-known}
+use Rattle.gather.proofs.Splitting.{suffix-end, suffix-bad, suffix-split, pick-one, pick-not, low-keys, trie-end, trie-bad, trie-split, long-body, long-known}
 
 -- a node that is entered has room
 pub entered-room : {v p path body : ℕ} {t k k' : List ℕ} {r : Bool} → Entered v p t path body k k' r → r ≡ true

@@ -1,16 +1,16 @@
 -- The slot of a key, and the bytes of a key that are known on the way down. Assumes nothing: these are definitions.
 use Prim.Native.Nat.{ℕ, _+_, _-_}
 use mathlib.Core.Bool.{Bool, _&&_}
-use mathlib.Core.List.{List, [], _∷_, _++_, map}
+use mathlib.Core.List.{List, [], _∷_, _++_}
 use lib.ListN.{length, take, replicate}
 use lib.Dec.{eqb, leb, ltb}
-use Rattle.buffer.specs.Lists.{flat}
 use Rattle.buffer.specs.Splice.{region}
 use Rattle.matcher.specs.Bytes.{pathLimit}
 use Rattle.rows.specs.Sizes.{valueSize, referenceSize, pathAt}
-use Rattle.trie_theory.specs.Forest.{Strings, Key}
+use Rattle.trie_theory.specs.Forest.{Strings, Key, under}
 use Rattle.trie_theory.specs.Strings.{at}
 use Rattle.entries.specs.Slots.{slotSize}
+use Rattle.trie_read.specs.Shape.{part, keyOf}
 
 -- a path and its end byte
 abbrev pub endedLimit : ℕ
@@ -31,3 +31,7 @@ keySlot x =
 -- the bytes known on the way down, v of the value and p of the path: they stand where a slot has them
 unfoldable pub known : ℕ → ℕ → List ℕ → Strings
 known v p k = take v k ∷ region k pathAt p ∷ []
+
+-- the key of the first suffix in the bytes b, whose path bytes are b[path..next], behind the bytes k
+abbrev pub suffixKey : Strings → List ℕ → ℕ → ℕ → Key
+suffixKey k b path next = under k (keyOf (part 22 path b) (part path next b) (part 2 22 b))

@@ -15,10 +15,8 @@ ghost use lib.Dec.{ltb};
 ghost use lib.ListN.{length};
 ghost use Rattle.buffer.specs.Splice.{splice};
 ghost use Rattle.rows.specs.Sizes.{valueSize};
-ghost use Rattle.trie_theory.specs.Forest.{under};
 ghost use Rattle.entries.specs.Slots.{slotSize};
-ghost use Rattle.trie_read.specs.Shape.{part, keyOf};
-ghost use Rattle.gather.specs.KeySlots.{endedLimit, hasSlot, keySlot, known};
+ghost use Rattle.gather.specs.KeySlots.{endedLimit, hasSlot, keySlot, known, suffixKey};
 ghost use Rattle.gather.specs.Walks.{Entered};
 
 // A path and its end byte.
@@ -29,7 +27,7 @@ fn fill(key: &mut [u8], v: usize, p: usize, b: &[u8], path: usize, next: usize)
     requires { ⌜ (length (now key) ≡ slotSize) × (22 ≤ path) × (path ≤ next) × (next ≤ length (now b)) ⌝ }
     requires { ⌜ (v + (path - 22) ≡ valueSize) × (1 ≤ p + (next - path)) × (p + (next - path) ≤ endedLimit) ⌝ }
     ensures { λ _.
-        ⌜ now (key .exit) ≡ keySlot (under (known v p (now (key .entry))) (keyOf (part 22 path (now (b .entry))) (part path next (now (b .entry))) (part 2 22 (now (b .entry))))) ⌝ }
+        ⌜ now (key .exit) ≡ keySlot (suffixKey (known v p (now (key .entry))) (now (b .entry)) path next) ⌝ }
 {
     let n = p + (next - path);
     let length = n - 1;
@@ -44,9 +42,9 @@ fn fill(key: &mut [u8], v: usize, p: usize, b: &[u8], path: usize, next: usize)
 pub fn compose(key: &mut [u8], v: usize, p: usize, b: &[u8], path: usize, next: usize) -> bool
     requires { ⌜ (length (now key) ≡ slotSize) × (v ≤ valueSize) × (p ≤ endedLimit) × (22 ≤ path) × (path ≤ next) × (next ≤ length (now b)) ⌝ }
     ensures { λ r.
-        ⌜ r ≡ hasSlot (under (known v p (now (key .entry))) (keyOf (part 22 path (now (b .entry))) (part path next (now (b .entry))) (part 2 22 (now (b .entry))))) ⌝ }
+        ⌜ r ≡ hasSlot (suffixKey (known v p (now (key .entry))) (now (b .entry)) path next) ⌝ }
     ensures { λ r.
-        ⌜ now (key .exit) ≡ cond r (keySlot (under (known v p (now (key .entry))) (keyOf (part 22 path (now (b .entry))) (part path next (now (b .entry))) (part 2 22 (now (b .entry)))))) (now (key .entry)) ⌝ }
+        ⌜ now (key .exit) ≡ cond r (keySlot (suffixKey (known v p (now (key .entry))) (now (b .entry)) path next)) (now (key .entry)) ⌝ }
 {
     let n = p + (next - path);
     if v + (path - 22) == VALUE_SIZE {

@@ -8,7 +8,6 @@ use trie_read::head::Head;
 use trie_read::head::read_head;
 use trie_read::suffixes::Tail;
 use trie_read::suffixes::read_suffix;
-ghost use mathlib.Core.Path.{_≡_};
 ghost use Prim.Native.Nat.{_+_, _-_, _*_, _≤_};
 ghost use lib.ListN.{length};
 ghost use Rattle.entries.specs.Slots.{slotSize};

@@ -1,19 +1,19 @@
 -- The steps of a search: how it goes down to a node, and which keys it takes. Assumes nothing: these are definitions.
-use Prim.Native.Nat.{ℕ, _+_, _-_, _≤_}
+use Prim.Native.Nat.{ℕ, _+_, _-_}
 use mathlib.Core.Path.{_≡_}
 use mathlib.Core.Bool.{Bool, true, cond, _&&_}
 use mathlib.Core.List.{List, [], _∷_}
-use lib.ListN.{length, take}
+use lib.ListN.{take}
 use lib.Dec.{eqb, leb}
 use Rattle.matcher.specs.declared.reach.Answer.{Answer}
 use Rattle.matcher.specs.declared.reach.Answer.the-variants.{Match, Mismatch, Incomplete}
 use Rattle.rows.specs.Sizes.{valueSize, rowSize}
-use Rattle.trie_theory.specs.Forest.{Strings, Key, join}
+use Rattle.trie_theory.specs.Forest.{Key, join}
 use Rattle.trie_theory.specs.Dimensions.{Above, root, below}
 use Rattle.trie_theory.specs.Search.{enters}
 use Rattle.entries.specs.Query.{Query, reaches, wants}
 use Rattle.trie_read.specs.Shape.{part}
-use Rattle.gather.specs.KeySlots.{endedLimit, hasSlot, keySlot, known}
+use Rattle.gather.specs.KeySlots.{endedLimit, hasSlot, keySlot, known, suffixKey}
 
 -- the answer of both dimensions together
 abbrev pub both : Answer → Answer → Answer
@@ -45,4 +45,10 @@ pub record Descended (q : Query) (kind v p : ℕ) (t : List ℕ) (path body : �
       ≡ (leb (v + (path - 7)) valueSize && leb (p + (body - path)) endedLimit)
       && enters (reaches q) (over kind) (known v p k) (part 7 path t ∷ part path body t ∷ [])
   pub joins : r ≡ true → known (v + (path - 7)) (p + (body - path)) k' ≡ join (known v p k) (part 7 path t ∷ part path body t ∷ [])
+  pub kept : known v p k' ≡ known v p k
+
+-- The step to the key of the suffix in b[..next]: is it taken? Then the buffer is its slot
+pub record Taken (q : Query) (v p : ℕ) (b : List ℕ) (path next : ℕ) (k k' : List ℕ) (r : Bool) : Type 0 where
+  pub is : r ≡ takes q (suffixKey (known v p k) b path next)
+  pub slot : r ≡ true → k' ≡ keySlot (suffixKey (known v p k) b path next)
   pub kept : known v p k' ≡ known v p k

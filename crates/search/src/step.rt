@@ -16,14 +16,12 @@ ghost use Rattle.buffer.specs.Splice.{region};
 ghost use Rattle.matcher.specs.Form.{patternForm, isFine};
 ghost use Rattle.matcher.specs.Reach.{reachOf};
 ghost use Rattle.rows.specs.Sizes.{valueSize, pathAt};
-ghost use Rattle.trie_theory.specs.Forest.{under};
 ghost use Rattle.trie_theory.specs.Search.{enters};
 ghost use Rattle.entries.specs.Slots.{slotSize};
 ghost use Rattle.entries.specs.Query.{valueReach, reaches, isMatch};
-ghost use Rattle.trie_read.specs.Shape.{part, keyOf};
-ghost use Rattle.gather.specs.KeySlots.{endedLimit, keySlot, known};
+ghost use Rattle.gather.specs.KeySlots.{endedLimit, known};
 ghost use Rattle.search.specs.Asked.{asked};
-ghost use Rattle.search.specs.Steps.{both, over, takes, Descended};
+ghost use Rattle.search.specs.Steps.{both, over, Descended, Taken};
 
 // Stands for the kind of a node where there is none above. No byte is that.
 pub const ROOT: usize = 256;
@@ -122,4 +120,49 @@ fn admits(
     let a = one_more(kind, 1, v, nv);
     let b = one_more(kind, 2, p, np);
     goes_on(pattern, low, high, key, a, b)
+}
+
+// Goes down to a node of the bytes t, if its strings have room and a search enters it: then they stand behind what is known.
+pub(crate) fn descend(
+    key: &mut [u8],
+    v: usize,
+    p: usize,
+    t: &[u8],
+    path: usize,
+    body: usize,
+    kind: usize,
+    pattern: &[u8],
+    low: u64,
+    high: u64,
+) -> bool
+    requires { ⌜ isFine (patternForm (now pattern)) ≡ true ⌝ }
+    requires { ⌜ (length (now key) ≡ slotSize) × (v ≤ valueSize) × (p ≤ endedLimit) × (7 ≤ path) × (path ≤ body) × (body ≤ length (now t)) × (kind ≡ 0 → ⊥) ⌝ }
+    ensures { λ r. ⌜ Descended (asked (now (pattern .entry)) low high) kind v p (now (t .entry)) path body (now (key .entry)) (now (key .exit)) r ⌝ }
+{
+    if enter(key, v, p, t, path, body) {
+        return admits(kind, pattern, low, high, key, v, p, path - 7, body - path);
+    }
+    false
+}
+
+// Makes the slot of the key of the suffix in b[..next], and tells whether it is taken.
+pub(crate) fn take_key(
+    key: &mut [u8],
+    v: usize,
+    p: usize,
+    b: &[u8],
+    path: usize,
+    next: usize,
+    pattern: &[u8],
+    low: u64,
+    high: u64,
+) -> bool
+    requires { ⌜ isFine (patternForm (now pattern)) ≡ true ⌝ }
+    requires { ⌜ (length (now key) ≡ slotSize) × (v ≤ valueSize) × (p ≤ endedLimit) × (22 ≤ path) × (path ≤ next) × (next ≤ length (now b)) ⌝ }
+    ensures { λ r. ⌜ Taken (asked (now (pattern .entry)) low high) v p (now (b .entry)) path next (now (key .entry)) (now (key .exit)) r ⌝ }
+{
+    if compose(key, v, p, b, path, next) {
+        return matches_key(pattern, low, high, key, p + (next - path));
+    }
+    false
 }

@@ -2,7 +2,7 @@
 use borrow.Author.Needs.{needs}
 use native.Mathlib.Omega.{arith}
 use Prim.Native.Nat.{_+_, _-_}
-use mathlib.Core.Path.{_≡_, refl, sym, _∙_}
+use mathlib.Core.Path.{refl, sym}
 use Rattle.trie_read.specs.Shape.{part}
 use Rattle.trie_read.proofs.Stretch.{length-part}
 use Rattle.gather.proofs.Filling.{filled-has, unfilled}

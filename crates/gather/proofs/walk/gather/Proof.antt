@@ -1,6 +1,5 @@
 -- The walk begins with nothing known. Assumes nothing.
 use borrow.Author.Needs.{needs}
-use native.Mathlib.Omega.{arith}
 use Rattle.gather.proofs.Gathering.{gathered-all, gathered-room}
 use Rattle.gather.proofs.walk.gather.Statement.{statement}
 use Rattle.gather.proofs.walk.gather.Tie as tie

@@ -1,7 +1,6 @@
 -- The root is entered; a child by the bytes with the branching byte added. Assumes nothing.
-use borrow.Author.Needs.{needs}
 use native.Mathlib.Omega.{arith}
-use mathlib.Core.Path.{_≡_, sym, ap, ap₂, _∙_}
+use mathlib.Core.Path.{ap₂, _∙_}
 use Prim.Native.Nat.{ℕ}
 use Rattle.entries.specs.Query.{reaches}
 use Rattle.gather.specs.KeySlots.{known}

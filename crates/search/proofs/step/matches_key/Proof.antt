@@ -1,6 +1,6 @@
 -- By cases on the answer of both. Assumes nothing.
 use borrow.Author.Needs.{needs}
-use mathlib.Core.Path.{_≡_, sym, ap, _∙_}
+use mathlib.Core.Path.{sym, ap, _∙_}
 use Rattle.entries.specs.Query.{isMatch}
 use Rattle.search.specs.Asked.{asked}
 use Rattle.search.proofs.Steps.{matches-known}

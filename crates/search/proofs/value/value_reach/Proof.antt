@@ -1,6 +1,5 @@
 -- One law for each test. Assumes nothing.
 use borrow.Author.Needs.{needs}
-use native.Mathlib.Omega.{arith}
 use Rattle.search.proofs.Ranges.{out-range, out-long, out-below, out-above, in-whole, in-part}
 use Rattle.search.proofs.value.value_reach.Statement.{statement}
 use Rattle.search.proofs.value.value_reach.Tie as tie

@@ -1,0 +1,155 @@
+-- A sound trie whose keys have slots: its nodes have room, and what the walk finds is what a search of it finds. Assumes nothing.
+use mathlib.Core.Path.{_≡_, refl, sym, ap, ap₂, _∙_}
+use mathlib.Core.Bool.{Bool, true, cond}
+use Prim.Native.Nat.{ℕ, _+_, _≤_}
+use mathlib.Core.List.{List, [], _∷_, _++_, map}
+use native.Mathlib.Omega.{arith}
+use lib.ListN.{length, take}
+use lib.Seq.{take-at}
+use Rattle.buffer.specs.Lists.{all, pick}
+use Rattle.buffer.proofs.Tests.{and-left, and-right, and-both}
+use Rattle.rows.specs.Sizes.{rowSize, nodeLimit}
+use Rattle.rows.specs.Entry.{Entry, row, fitsRow}
+use Rattle.rows.proofs.Rows.{length-row}
+use Rattle.trie_theory.specs.Forest.{Strings, Key, Forest, none, leaf, inner, join, under, keys, tops}
+use Rattle.trie_theory.specs.Dimensions.{Above, root, below}
+use Rattle.trie_theory.specs.Sound.{Sound}
+use Rattle.trie_theory.specs.Search.{enters, found, nodesEntered}
+use Rattle.trie_theory.specs.Encode.{Regular}
+use Rattle.entries.specs.Keys.{entryKey}
+use Rattle.entries.specs.Slots.{slot}
+use Rattle.entries.specs.Query.{Query, reaches, wants}
+use Rattle.gather.specs.KeySlots.{hasSlot, known}
+use Rattle.gather.proofs.Filling.{slotted, entry-slot}
+use Rattle.gather.proofs.Gathering.{known-nothing}
+use Rattle.gather.proofs.Splitting.{join-longer, blank, keys-root}
+use Rattle.search.specs.Steps.{rootKind, over, takes, keyRow}
+use Rattle.search.specs.Searches.{Searched, TrieSearched, TrieFound, BodyFound, Short, Roomy}
+
+-- the row of an entry's key is the entry's
+pub entry-row : (e : Entry) → fitsRow e ≡ true → keyRow (entryKey e) ≡ row e
+unfolding keyRow slot
+entry-row e h = ap (take rowSize) (entry-slot e h) ∙ take-at (row e) _ rowSize (length-row e h)
+
+all-first : {A : Type 0} (t : A → Bool) (xs ys : List A) → all t (xs ++ ys) ≡ true → all t xs ≡ true
+all-first t [] ys h = refl
+all-first t (x ∷ xs) ys h = and-both (and-left (t x) (all t (xs ++ ys)) h) (all-first t xs ys (and-right (t x) (all t (xs ++ ys)) h))
+
+all-second : {A : Type 0} (t : A → Bool) (xs ys : List A) → all t (xs ++ ys) ≡ true → all t ys ≡ true
+all-second t [] ys h = h
+all-second t (x ∷ xs) ys h = all-second t xs ys (and-right (t x) (all t (xs ++ ys)) h)
+
+-- ---- room
+
+short-join : (k s : Strings) → Short (join k s) → Short k
+short-join k s h = (omega (arith, h .0, join-longer 0 k s), omega (arith, h .1, join-longer 1 k s))
+
+short-under : (k : Strings) (x : Key) → hasSlot (under k x) ≡ true → Short k
+unfolding under
+short-under k x h = let w = slotted (under k x) h in short-join k (x .strings) (omega (arith, w .value), w .short)
+
+short-leaf : (k : Strings) (ts : List Key) → 1 ≤ length ts → all hasSlot (map (under k) ts) ≡ true → Short k
+short-leaf k [] l h = absurd (omega arith)
+short-leaf k (t ∷ ts) l h = short-under k t (and-left (hasSlot (under k t)) (all hasSlot (map (under k) ts)) h)
+
+-- the bytes known above tries that are not empty
+short-tries : (n : ℕ) (above : Above) (k : Strings) (f : Forest) → Sound n above f → 1 ≤ length (tops f) → all hasSlot (keys k f) ≡ true → Short k
+unfolding Sound keys tops
+short-tries n above k none s l h = absurd (omega arith)
+short-tries n above k (leaf c ts more) s l h = short-join k c (short-leaf (join k c) ts (s .1) (all-first hasSlot (map (under (join k c)) ts) (keys k more) h))
+short-tries n above k (inner d c kids more) s l h =
+    short-join k c (short-tries n (below d) (join k c) kids (s .2) (omega (arith, s .1)) (all-first hasSlot (keys (join k c) kids) (keys k more) h))
+
+pub roomy : (n : ℕ) (above : Above) (k : Strings) (f : Forest) → Sound n above f → all hasSlot (keys k f) ≡ true → Roomy k f
+unfolding Sound keys Roomy
+roomy n above k none s h = tt
+roomy n above k (leaf c ts more) s h =
+    let xs = map (under (join k c)) ts in
+    (short-leaf (join k c) ts (s .1) (all-first hasSlot xs (keys k more) h), roomy n above k more (s .3) (all-second hasSlot xs (keys k more) h))
+roomy n above k (inner d c kids more) s h =
+    let xs = keys (join k c) kids in
+    let own = all-first hasSlot xs (keys k more) h in (
+      short-tries n (below d) (join k c) kids (s .2) (omega (arith, s .1)) own,
+      roomy n (below d) (join k c) kids (s .2) own,
+      roomy n above k more (s .3) (all-second hasSlot xs (keys k more) h),
+    )
+
+-- ---- what matches has a slot
+
+pick-takes : (q : Query) (xs : List Key) → all hasSlot xs ≡ true → pick (wants q) xs ≡ pick (takes q) xs
+unfolding pick takes
+pick-takes q [] h = refl
+pick-takes q (x ∷ xs) h =
+    rw (and-left (hasSlot x) (all hasSlot xs) h)
+    (ap (λ (l : List Key). cond (wants q x) (x ∷ l) l) (pick-takes q xs (and-right (hasSlot x) (all hasSlot xs) h)))
+
+found-takes : (q : Query) (reach : Strings → Bool) (above : Above) (k : Strings) (f : Forest) → all hasSlot (keys k f) ≡ true
+    → found reach (wants q) above k f ≡ found reach (takes q) above k f
+unfolding found keys
+found-takes q reach above k none h = refl
+found-takes q reach above k (leaf s ts more) h =
+    let xs = map (under (join k s)) ts in
+    ap₂ _++_ (ap (λ (l : List Key). cond (enters reach above k s) l []) (pick-takes q xs (all-first hasSlot xs (keys k more) h)))
+    (found-takes q reach above k more (all-second hasSlot xs (keys k more) h))
+found-takes q reach above k (inner d s kids more) h =
+    let xs = keys (join k s) kids in
+    ap₂ _++_ (ap (λ (l : List Key). cond (enters reach above k s) l []) (found-takes q reach (below d) (join k s) kids (all-first hasSlot xs (keys k more) h)))
+    (found-takes q reach above k more (all-second hasSlot xs (keys k more) h))
+
+-- ---- the root: nothing is known
+
+abbrev nothing : Strings
+nothing = [] ∷ [] ∷ []
+
+found-root : (reach : Strings → Bool) (m : Key → Bool) (f : Forest) → Regular 2 f → found reach m root nothing f ≡ found reach m root [] f
+unfolding found enters Regular join
+found-root reach m none h = refl
+found-root reach m (leaf s ts more) h = ap₂ _++_ (ap (λ (l : Strings). pick m (map (under l) ts)) (blank s (h .0))) (found-root reach m more (h .2))
+found-root reach m (inner d s kids more) h = ap₂ _++_ (ap (λ (l : Strings). found reach m (below d) l kids) (blank s (h .0))) (found-root reach m more (h .2))
+
+nodes-root : (reach : Strings → Bool) (f : Forest) → Regular 2 f → nodesEntered reach root nothing f ≡ nodesEntered reach root [] f
+unfolding nodesEntered enters Regular join
+nodes-root reach none h = refl
+nodes-root reach (leaf s ts more) h = ap (λ (n : ℕ). 1 + n) (nodes-root reach more (h .2))
+nodes-root reach (inner d s kids more) h =
+    ap₂ (λ (x y : ℕ). 1 + x + y) (ap (λ (l : Strings). nodesEntered reach (below d) l kids) (blank s (h .0))) (nodes-root reach more (h .2))
+
+over-root : over rootKind ≡ root
+unfolding over
+over-root = refl
+
+-- a trie is a body of the kind of no node
+whole : (k : List ℕ) {q : Query} {t : List ℕ} {ks : List Key} {e : ℕ} → TrieFound q t ks e → BodyFound q rootKind nodeLimit (known 0 0 k) t ks e
+whole k {q} w =
+    let f = w .tries in
+    let slots : all hasSlot (keys nothing f) ≡ true = ap (all hasSlot) (keys-root f (w .regular)) ∙ w .slots in
+    record {
+      leaf = λ z. absurd (omega arith);
+      inner = λ z.
+          rw (known-nothing k, over-root)
+          record {
+            tries = f;
+            regular = w .regular;
+            high = w .high;
+            roomy = roomy 2 root nothing f (w .sound) slots;
+            bytes = w .bytes;
+            is = w .is ∙ sym (found-root (reaches q) (wants q) f (w .regular)) ∙ found-takes q (reaches q) root nothing f slots;
+            entered = w .entered ∙ sym (nodes-root (reaches q) f (w .regular));
+          };
+    }
+
+pub trie-searched : {q : Query} {t : List ℕ} {room n c : ℕ} {s k s' k' : List ℕ} {r d : ℕ} → Searched (BodyFound q rootKind nodeLimit (known 0 0 k) t) 0 0 room n c s k s' k' r d
+    → r ≤ n + length t → d ≤ c + length t → TrieSearched q t room n c s s' r d
+trie-searched {k = k} i a b =
+    record {
+      put = i .rows .put;
+      nodes = i .nodes;
+      fit = i .rows .fit;
+      rows-are = i .rows .count;
+      nodes-are = i .count;
+      fewRows = a;
+      fewNodes = b;
+      long = i .rows .long;
+      writes = i .rows .writes;
+      are = λ ks e w. i .are ks e (whole k w);
+    }

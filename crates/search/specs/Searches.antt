@@ -1,0 +1,101 @@
+-- What a search of tries in bytes finds: the keys, whose rows it writes, and the number of nodes entered. Assumes nothing: these are definitions.
+use Prim.Native.Nat.{ℕ, _+_, _*_, _<_, _≤_}
+use mathlib.Core.Path.{_≡_}
+use mathlib.Core.Bool.{true}
+use mathlib.Core.List.{List, [], _++_, map}
+use lib.ListN.{length, take}
+use Rattle.buffer.specs.Lists.{all, All, pick}
+use Rattle.buffer.specs.Splice.{splice}
+use Rattle.matcher.specs.Form.{patternForm, isFine}
+use Rattle.rows.specs.Sizes.{valueSize, rowSize, nodeLimit}
+use Rattle.trie_theory.specs.Forest.{Strings, Key, Forest, none, leaf, inner, join, under, keys}
+use Rattle.trie_theory.specs.Strings.{at}
+use Rattle.trie_theory.specs.Dimensions.{Above, root}
+use Rattle.trie_theory.specs.Sound.{Sound}
+use Rattle.trie_theory.specs.Size.{height}
+use Rattle.trie_theory.specs.Search.{found, nodesEntered}
+use Rattle.trie_theory.specs.Encode.{Regular, encode}
+use Rattle.entries.specs.Slots.{slotSize}
+use Rattle.entries.specs.Query.{Query, reaches, wants}
+use Rattle.trie_read.specs.Shape.{Fixed}
+use Rattle.trie_read.specs.Suffixes.{suffixesBytes}
+use Rattle.gather.specs.KeySlots.{endedLimit, hasSlot}
+use Rattle.gather.specs.Walks.{joined, Put}
+use Rattle.search.specs.Steps.{over, takes, keyRow}
+
+-- Rows are put into the answer s behind n others, and nodes are counted from c on: r and d. Where `Has` tells keys and nodes, they are these
+pub record Searched (Has : List Key → ℕ → Type 0) (v p room n c : ℕ) (s k s' k' : List ℕ) (r d : ℕ) : Type 0 where
+  pub rows : Put keyRow (λ ks. ⊥) v p 0 room n s k s' k' r
+  pub nodes : ℕ
+  pub count : d ≡ c + nodes
+  pub are : (ks : List Key) (e : ℕ) → Has ks e → (rows .put ≡ ks) × (nodes ≡ e)
+
+-- THE TRIE in the bytes t, sound, with keys that have slots: the keys that a search finds, and the nodes that it enters
+pub record TrieFound (q : Query) (t : List ℕ) (ks : List Key) (e : ℕ) : Type 0 where
+  pub tries : Forest
+  pub regular : Regular 2 tries
+  pub sound : Sound 2 root tries
+  pub high : height tries ≤ nodeLimit
+  pub slots : all hasSlot (keys [] tries) ≡ true
+  pub bytes : t ≡ encode tries
+  pub is : ks ≡ found (reaches q) (wants q) root [] tries
+  pub entered : e ≡ nodesEntered (reaches q) root [] tries
+
+-- The contract of `search_trie`, on any bytes t: rows of some keys are found behind n others, r in all, of which s' has the first `room`, where s had the
+-- first of the n; and nodes are counted from c on. Where the bytes are those of a trie, these are what a search of it finds
+pub record TrieSearched (q : Query) (t : List ℕ) (room n c : ℕ) (s s' : List ℕ) (r d : ℕ) : Type 0 where
+  pub put : List Key
+  pub nodes : ℕ
+  pub fit : all hasSlot put ≡ true
+  pub rows-are : r ≡ n + length put
+  pub nodes-are : d ≡ c + nodes
+  pub fewRows : r ≤ n + length t
+  pub fewNodes : d ≤ c + length t
+  pub long : length s' ≡ length s
+  pub writes : (s₀ : List ℕ) (done : List Key) → length s₀ ≡ length s → length done ≡ n → all hasSlot done ≡ true
+      → s ≡ splice s₀ 0 (joined keyRow (take room done))
+      → s' ≡ splice s₀ 0 (joined keyRow (take room (done ++ put)))
+  pub are : (ks : List Key) (e : ℕ) → TrieFound q t ks e → (put ≡ ks) × (nodes ≡ e)
+
+-- ---- what the parts of the walk promise each other
+
+-- strings that have room in a slot
+abbrev pub Short : Strings → Type 0
+Short k = (length (at 0 k) ≤ valueSize) × (length (at 1 k) ≤ endedLimit)
+
+-- those of every node have, with the bytes k known above the tries
+unfoldable pub Roomy : Strings → Forest → Type 0
+Roomy k none = Unit {0}
+Roomy k (leaf s ts more) = Short (join k s) × Roomy k more
+Roomy k (inner d s kids more) = Short (join k s) × Roomy (join k s) kids × Roomy k more
+
+-- the same of suffixes, of tries, and of the body of a node
+pub record SuffixesFound (q : Query) (k : Strings) (t : List ℕ) (ks : List Key) (e : ℕ) : Type 0 where
+  pub suffixes : List Key
+  pub fixed : All Fixed suffixes
+  pub bytes : t ≡ suffixesBytes suffixes
+  pub is : ks ≡ pick (takes q) (map (under k) suffixes)
+  pub entered : e ≡ 0
+
+pub record TriesFound (q : Query) (above : Above) (depth : ℕ) (k : Strings) (t : List ℕ) (ks : List Key) (e : ℕ) : Type 0 where
+  pub tries : Forest
+  pub regular : Regular 2 tries
+  pub high : height tries ≤ depth
+  pub roomy : Roomy k tries
+  pub bytes : t ≡ encode tries
+  pub is : ks ≡ found (reaches q) (takes q) above k tries
+  pub entered : e ≡ nodesEntered (reaches q) above k tries
+
+pub record BodyFound (q : Query) (kind depth : ℕ) (k : Strings) (t : List ℕ) (ks : List Key) (e : ℕ) : Type 0 where
+  pub leaf : kind ≡ 0 → SuffixesFound q k t ks e
+  pub inner : (kind ≡ 0 → ⊥) → TriesFound q (over kind) depth k t ks e
+
+-- what the walk asks for: a formed pattern, room for as many rows in the answer, counters that do not overflow, a key buffer
+pub record Ready (pattern t k s : List ℕ) (v p room rows nodes : ℕ) : Type 0 where
+  pub formed : isFine (patternForm pattern) ≡ true
+  pub fits : room * rowSize ≤ length s
+  pub fewRows : rows + length t < 18446744073709551616
+  pub fewNodes : nodes + length t < 18446744073709551616
+  pub buffer : length k ≡ slotSize
+  pub value : v ≤ valueSize
+  pub path : p ≤ endedLimit
