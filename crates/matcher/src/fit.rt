@@ -96,10 +96,14 @@ fn labels(pattern: &[u8], path: &[u8]) -> Trial
         return Trial::Never;
     }
     let b = label_end(path);
-    if label_fits(&pattern[1..a], &path[1..b]) {
-        return labels(&pattern[a..], &path[b..]);
+    if !label_fits(&pattern[1..a], &path[1..b]) {
+        return Trial::Fails; // but a `**` before may take this label and try the next
     }
-    Trial::Fails // but a `**` before may take this label and try the next
+    match labels(&pattern[a..], &path[b..]) {
+        Trial::Fits => Trial::Fits,
+        Trial::Fails => Trial::Fails, // but a `**` before may take this label, though it fits, and try the next
+        Trial::Never => Trial::Never,
+    }
 }
 
 // Descendant matching: tries the rest of a path against `**` and the pattern that remains. `**` takes one label more in each turn.

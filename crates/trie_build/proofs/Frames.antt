@@ -2,11 +2,12 @@
 -- Assumes nothing.
 use mathlib.Core.Path.{_≡_, refl, sym, ap, ap₂, _∙_}
 use Prim.Native.Nat.{ℕ, zero, suc, _+_, _*_, _-_, _≤_, _<_}
-use mathlib.Core.List.{List, [], _∷_, _++_}
+use mathlib.Core.List.{List, _++_, append-assoc}
 use native.Mathlib.Omega.{arith}
-use lib.ListN.{length, getD, length-append}
+use lib.ListN.{length, getD, take, drop, length-append, length-drop}
+use lib.Seq.{ext-getD, getD-drop, take-add}
 use Rattle.buffer.specs.Splice.{splice, region}
-use Rattle.buffer.proofs.Splice.{length-splice, length-region, region-at, region-after, region-add}
+use Rattle.buffer.proofs.Splice.{splice-is, length-splice, region-at, region-after, region-add}
 use Rattle.entries.specs.Slots.{slotSize}
 use Rattle.trie_build.specs.Partition.{Outside, Parted}
 use Rattle.trie_build.specs.Build.{Built}
@@ -54,3 +55,24 @@ node-built s s₁ s₂ s₃ out slots scratch n t b f lf h k r e a q =
           ∙ a .kept i (λ u v. x (omega arith) (omega arith)) y z
           ∙ rw e (getD-outside s (out + 7) t (omega arith) i (λ u v. x (omega arith) (omega arith)));
     }
+
+-- FOR CALLERS: bytes z laid behind the trie, over slots and scratch, decide every byte
+module _ (s s′ : List ℕ) (out slots scratch n : ℕ) (b z : List ℕ) (a : Built s out slots scratch n b s′) (h : out + length b ≤ slots) (k : slots + n * slotSize ≤ scratch)
+    (l : scratch + n * slotSize ≤ out + length b + length z) (m : out + length b + length z ≤ length s) where
+  abbrev stop : ℕ
+  stop = out + length b + length z
+
+  built-before : take out s′ ≡ take out s
+  built-before = region-same s′ s 0 out (a .long) (omega arith) (λ i x y. a .kept i (λ u v. omega arith) (λ u v. omega arith) (λ u v. omega arith))
+
+  built-behind : drop stop s′ ≡ drop stop s
+  built-behind =
+      ext-getD 0 (drop stop s′) (drop stop s) (length-drop stop s′ ∙ ap (λ (j : ℕ). j - stop) (a .long) ∙ sym (length-drop stop s))
+      (λ i x.
+      getD-drop stop s′ i 0
+      ∙ a .kept (stop + i) (λ u v. omega arith) (λ u v. omega arith) (λ u v. omega arith) ∙ sym (getD-drop stop s i 0))
+
+  pub built-over : splice s′ (out + length b) z ≡ splice s out (b ++ z)
+  built-over =
+      let e : out + length (b ++ z) ≡ stop = omega (arith, length-append b z) in
+      rw (splice-is s′ (out + length b) z, splice-is s out (b ++ z), e, take-add out (length b) s′, built-before, a .wrote, built-behind) (simp append-assoc)

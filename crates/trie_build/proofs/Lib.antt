@@ -15,3 +15,4 @@ pub mod Going
 pub mod Opening
 pub mod Building
 pub mod Level
+pub mod Entries

@@ -7,10 +7,10 @@ use mathlib.Core.List.{List, [], _∷_}
 use native.Mathlib.Omega.{arith}
 use lib.ListN.{length, getD}
 use lib.Dec.{ltb}
-use borrow.Author.Tests.{leb-true, lt-ltb, le-ltb}
+use borrow.Author.Tests.{leb-true, le-leb, lt-ltb, le-ltb}
 use Rattle.buffer.specs.Splice.{region}
 use Rattle.buffer.proofs.Splice.{length-region}
-use Rattle.buffer.proofs.Lists.{all-tested}
+use Rattle.buffer.proofs.Lists.{all-test, all-tested}
 use Rattle.rows.specs.Records.{records}
 use Rattle.rows.specs.Sizes.{valueSize, lengthAt, pathAt}
 use Rattle.rows.proofs.Records.{record-inside}
@@ -25,7 +25,7 @@ use Rattle.trie_build.specs.Sets.{keysOf, shortPaths}
 use Rattle.trie_build.specs.Positions.{slotByte, Alike, Least, passes, kindOf, Split}
 use Rattle.trie_build.proofs.Sets.{slot-zero}
 use Rattle.trie_build.proofs.Turning.{turn-same}
-use Rattle.trie_build.proofs.Sharing.{keyAt, Dimension, region-get, slots-all, length-keysOf, bound-shared, sharing, differing}
+use Rattle.trie_build.proofs.Sharing.{keyAt, Dimension, region-get, all-slots, slots-all, length-keysOf, bound-shared, sharing, differing}
 
 module _ (t : List ℕ) (n : ℕ) (room : n * slotSize ≤ length t) where
   -- slot k, whole
@@ -64,6 +64,16 @@ module _ (t : List ℕ) (n : ℕ) (room : n * slotSize ≤ length t) where
               rw (own k) (region-get (r k) pathAt (slotByte t k lengthAt + 1) i l)
               ∙ region-get t (k * slotSize) slotSize (pathAt + i) (omega (arith, path-short k h));
         }
+
+-- paths that are each short are short
+pub short-paths : (t : List ℕ) (n : ℕ) → ((k : ℕ) → k < n → slotByte t k lengthAt ≤ pathLimit) → shortPaths n t ≡ true
+unfolding shortPaths shortPath
+short-paths t n f =
+    all-test shortPath
+    (all-slots {P = λ r. shortPath r ≡ true} n t
+    (λ k h.
+    let e = region-get t (k * slotSize) slotSize lengthAt (omega arith) in
+    rw e (le-leb (slotByte t k lengthAt) pathLimit (f k h))))
 
 -- the two positions and what they decide
 module _ (t : List ℕ) (n : ℕ) (some : 0 < n) (room : n * slotSize ≤ length t) (short : shortPaths n t ≡ true) (small : (i : ℕ) → getD t i 0 < 256) (least : ℕ) (m : Least t n least) where

@@ -7,6 +7,7 @@ use mathlib.Core.Bool.{Bool}
 use Prim.Native.Nat.{ℕ, _+_, _*_, _-_, _<_, _≤_}
 use lib.ListN.{length}
 use borrow.Author.Needs.{needs}
+use borrow.Author.Tests.{not-true, not-false}
 use borrow.Fn.Kinds.{In}
 use borrow.Fn.PlainCycle.{Measures, is, falls, and}
 use Rattle.matcher.specs.Labels.{labelsOf}
@@ -117,6 +118,17 @@ labels-returns-4 t c =
 
 labels-returns-5 : (t : ℕ) → labels-lts.Need-returns-5 (labels-calls t) (labels-at t) labels.Post
 labels-returns-5 t c =
+    let p = c .before .before .before .before .before .before .before .before .before .before .before .before .before .args .pattern .now in
+    let s = c .before .before .before .before .before .before .before .before .before .before .before .before .before .args .path .now in
+    let a = c .before .before .before .before .before .before .before .before .before .label-end in
+    let b = c .before .before .before .before .label-end2 in
+    let k = fitLabels (labelsOf (back p (a .result))) in
+    rw (one-law p (a .result) (a .ensures) (sym (c .before .before .before .before .before .before .before .is-deep .ensures) ∙ c .before .before .before .before .before .before .if3 .left))
+    (first-not (fitsLabel (front p (a .result))) k s (b .result) (b .ensures) (sym (c .before .label-fits .ensures) ∙ not-true _ (c .if5 .taken)))
+
+-- the first label fits: what is said of the others is so of all
+labels-says : (t : ℕ) (c : labels-lts.After-labels (labels-calls t) (labels-at t) labels.Post) → Says (fitLabels (labelsOf (c .before .before .before .before .before .before .before .before .before .before .before .before .before .before .before .before .args .pattern .now))) (labelsOf (c .before .before .before .before .before .before .before .before .before .before .before .before .before .before .before .before .args .path .now)) (c .labels .result)
+labels-says t c =
     let p = c .before .before .before .before .before .before .before .before .before .before .before .before .before .before .before .before .args .pattern .now in
     let s = c .before .before .before .before .before .before .before .before .before .before .before .before .before .before .before .before .args .path .now in
     let a = c .before .before .before .before .before .before .before .before .before .before .before .before .label-end in
@@ -124,17 +136,16 @@ labels-returns-5 t c =
     let k = fitLabels (labelsOf (back p (a .result))) in
     let law = one-law p (a .result) (a .ensures) (sym (c .before .before .before .before .before .before .before .before .before .before .is-deep .ensures) ∙ c .before .before .before .before .before .before .before .before .before .if3 .left) in
     subst (λ (g : List (List ℕ) → Bool). Says g (labelsOf s) (c .labels .result)) (sym law)
-    (first-cut (fitsLabel (front p (a .result))) k s (b .result) (c .labels .result) (b .ensures) (sym (c .before .before .before .before .label-fits .ensures) ∙ c .before .before .before .if5 .taken) (c .labels .ensures))
+    (first-cut (fitsLabel (front p (a .result))) k s (b .result) (c .labels .result) (b .ensures) (sym (c .before .before .before .before .label-fits .ensures) ∙ not-false _ (c .before .before .before .if5 .left)) (c .labels .ensures))
 
 labels-returns-6 : (t : ℕ) → labels-lts.Need-returns-6 (labels-calls t) (labels-at t) labels.Post
-labels-returns-6 t c =
-    let p = c .before .before .before .before .before .before .before .before .before .before .before .before .before .args .pattern .now in
-    let s = c .before .before .before .before .before .before .before .before .before .before .before .before .before .args .path .now in
-    let a = c .before .before .before .before .before .before .before .before .before .label-end in
-    let b = c .before .before .before .before .label-end2 in
-    let k = fitLabels (labelsOf (back p (a .result))) in
-    rw (one-law p (a .result) (a .ensures) (sym (c .before .before .before .before .before .before .before .is-deep .ensures) ∙ c .before .before .before .before .before .before .if3 .left))
-    (first-not (fitsLabel (front p (a .result))) k s (b .result) (b .ensures) (sym (c .before .label-fits .ensures) ∙ c .if5 .left))
+labels-returns-6 t c = subst (Says (fitLabels (labelsOf (c .before .before .before .before .before .before .before .before .before .before .before .before .before .before .before .before .before .before .args .pattern .now))) (labelsOf (c .before .before .before .before .before .before .before .before .before .before .before .before .before .before .before .before .before .before .args .path .now))) (c .enum-told .given .1) (labels-says t (c .before .before))
+
+labels-returns-7 : (t : ℕ) → labels-lts.Need-returns-7 (labels-calls t) (labels-at t) labels.Post
+labels-returns-7 t c = subst (Says (fitLabels (labelsOf (c .before .before .before .before .before .before .before .before .before .before .before .before .before .before .before .before .before .before .args .pattern .now))) (labelsOf (c .before .before .before .before .before .before .before .before .before .before .before .before .before .before .before .before .before .before .args .path .now))) (c .enum-told2 .given .1) (labels-says t (c .before .before))
+
+labels-returns-8 : (t : ℕ) → labels-lts.Need-returns-8 (labels-calls t) (labels-at t) labels.Post
+labels-returns-8 t c = subst (Says (fitLabels (labelsOf (c .before .before .before .before .before .before .before .before .before .before .before .before .before .before .before .before .before .before .args .pattern .now))) (labelsOf (c .before .before .before .before .before .before .before .before .before .before .before .before .before .before .before .before .before .before .args .path .now))) (c .enum-told3 .given .1) (labels-says t (c .before .before))
 
 pub +descend+labels-spec : {M : Type 1} → statement M
 +descend+labels-spec = close μ-descend μ-labels (λ t. descend-lts.spec (descend-calls t)
@@ -188,6 +199,7 @@ pub +descend+labels-spec : {M : Type 1} → statement M
     (λ c. search needs)
     (λ c. search needs)
     (λ c κs. search needs)
+    (labels-returns-5 t)
     (λ c. search needs)
     (λ c. search needs)
     (λ c. search needs)
@@ -195,5 +207,9 @@ pub +descend+labels-spec : {M : Type 1} → statement M
     (λ c. search needs)
     (λ c. search needs)
     (λ c κs. search needs)
-    (labels-returns-5 t)
+    (λ c. search needs)
+    (λ c. search needs)
+    (λ c. search needs)
     (labels-returns-6 t)
+    (labels-returns-7 t)
+    (labels-returns-8 t)

@@ -20,7 +20,7 @@ returns c =
     c .both .ensures
     ∙ ap₂ both
     (c .before .before .before .value-reach .ensures (a .pattern .now) ∙ ap (λ (n : ℕ). valueReach (asked (a .pattern .now) (a .low) (a .high)) (take n (a .key .now))) value)
-    (c .before .reach-formed .ensures .is ∙ ap (λ (n : ℕ). reachOf (a .pattern .now) (take n (drop pathAt (a .key .now)))) path)
+    (c .before .reach-formed .ensures .1 (c .before .before .before .before .before .before .before .pre .0) .is ∙ ap (λ (n : ℕ). reachOf (a .pattern .now) (take n (drop pathAt (a .key .now)))) path)
 
 pub ask-spec : {M : Type 1} → statement M
 ask-spec =
