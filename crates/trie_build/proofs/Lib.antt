@@ -16,3 +16,4 @@ pub mod Opening
 pub mod Building
 pub mod Level
 pub mod Entries
+pub mod Sequence
