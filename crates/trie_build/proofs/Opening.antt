@@ -1,15 +1,14 @@
 -- The strings of a node as bytes of its first slot, and the room that a trie takes. Assumes nothing.
-use mathlib.Core.Path.{_≡_, refl, sym, ap, ap₂, _∙_}
+use mathlib.Core.Path.{_≡_, refl, sym, ap, _∙_}
 use mathlib.Core.Bool.{true}
 use mathlib.Core.Option.{Option, none, some}
 use Prim.Native.Nat.{ℕ, zero, suc, _+_, _*_, _-_, _≤_, _<_}
-use mathlib.Core.List.{List, [], _∷_, _++_, map}
+use mathlib.Core.List.{List, _++_, map}
 use native.Mathlib.Omega.{arith}
 use lib.ListN.{length, getD, take, drop, length-append, length-drop}
 use lib.Seq.{ext-getD, getD-drop}
-use Rattle.buffer.specs.Lists.{All, all}
+use Rattle.buffer.specs.Lists.{all}
 use Rattle.buffer.specs.Splice.{splice, region}
-use Rattle.buffer.specs.Numbers.{bytesOf}
 use Rattle.buffer.proofs.Digits.{length-bytesOf}
 use Rattle.buffer.proofs.Lists.{all-imp}
 use Rattle.buffer.proofs.Splice.{length-region}

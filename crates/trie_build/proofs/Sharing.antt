@@ -2,12 +2,10 @@
 use mathlib.Core.Path.{_≡_, refl, sym, ap, _∙_}
 use mathlib.Core.Bool.{Bool, true, false}
 use Prim.Native.Nat.{ℕ, zero, suc, _+_, _*_, _≤_, _<_}
-use mathlib.Core.List.{List, [], _∷_, _++_, map}
+use mathlib.Core.List.{List, [], _∷_, map}
 use native.Mathlib.Omega.{arith}
-use native.Mathlib.Nat.{le-antisymm}
-use native.Mathlib.Numerals.{add-one}
-use lib.ListN.{length, getD, take, drop, length-take, length-drop, length-map}
-use lib.Seq.{getD-take, getD-drop, length-take-le, drop-drop, take-take}
+use lib.ListN.{length, getD, take, drop, length-map}
+use lib.Seq.{getD-take, getD-drop, length-take-le, drop-drop}
 use lib.Dec.{ltb}
 use borrow.Author.Tests.{ltb-true, ltb-false, lt-ltb, le-ltb}
 use Rattle.buffer.specs.Lists.{all, All, nil, cons}
@@ -15,17 +13,15 @@ use Rattle.buffer.specs.Splice.{region}
 use Rattle.buffer.proofs.Lists.{all-imp, all-head, all-tail, all-map, all-unmap, all-test, all-tested}
 use Rattle.buffer.proofs.Tests.{not-both, not-true}
 use Rattle.rows.specs.Records.{records}
-use Rattle.rows.specs.Sizes.{valueSize, lengthAt, pathAt}
 use Rattle.rows.proofs.Records.{records-suc, length-records}
-use Rattle.entries.specs.Slots.{slotSize, slotKey, shortPath}
+use Rattle.entries.specs.Slots.{slotSize, slotKey}
 use Rattle.trie_theory.specs.Forest.{Strings, Key}
-use Rattle.trie_theory.specs.Strings.{at, strip, first}
+use Rattle.trie_theory.specs.Strings.{at, first}
 use Rattle.trie_theory.specs.Position.{shared, byte, differ}
-use Rattle.trie_theory.proofs.Prefix.{Prefix, Prefixes, From, shared-all, shared-greatest, prefixes-at, prefix-length}
+use Rattle.trie_theory.proofs.Prefix.{Prefix, Prefixes, shared-all, shared-greatest, prefixes-at, prefix-length}
 use Rattle.trie_theory.proofs.Differ.{byte-at}
-use Rattle.trie_theory.proofs.Strings.{length-shared}
-use Rattle.trie_build.specs.Sets.{keysOf, shortPaths}
-use Rattle.trie_build.specs.Positions.{slotByte, Alike, Least}
+use Rattle.trie_build.specs.Sets.{keysOf}
+use Rattle.trie_build.specs.Positions.{slotByte, Alike}
 use Rattle.trie_build.proofs.Sets.{slot-zero}
 
 -- ---- prefixes by their bytes

@@ -1,9 +1,9 @@
 -- How a set of slots is split: the two dimensions, their positions, and the kind of the node. Assumes nothing.
-use mathlib.Core.Path.{_≡_, refl, sym, ap, _∙_}
-use mathlib.Core.Bool.{Bool, true, false, cond}
-use mathlib.Core.Option.{Option, none, some}
-use Prim.Native.Nat.{ℕ, zero, suc, _+_, _*_, _≤_, _<_}
-use mathlib.Core.List.{List, [], _∷_}
+use mathlib.Core.Path.{_≡_, refl, ap, _∙_}
+use mathlib.Core.Bool.{Bool, true, false}
+use mathlib.Core.Option.{some}
+use Prim.Native.Nat.{ℕ, _+_, _*_, _≤_, _<_}
+use mathlib.Core.List.{List}
 use native.Mathlib.Omega.{arith}
 use lib.ListN.{length, getD}
 use lib.Dec.{ltb}
@@ -22,10 +22,9 @@ use Rattle.trie_theory.specs.Position.{shared, differ}
 use Rattle.trie_theory.specs.Level.{choice}
 use Rattle.trie_read.specs.Shape.{aboveOf}
 use Rattle.trie_build.specs.Sets.{keysOf, shortPaths}
-use Rattle.trie_build.specs.Positions.{slotByte, Alike, Least, passes, kindOf, Split}
-use Rattle.trie_build.proofs.Sets.{slot-zero}
+use Rattle.trie_build.specs.Positions.{slotByte, Alike, Least, passes, kindOf}
 use Rattle.trie_build.proofs.Turning.{turn-same}
-use Rattle.trie_build.proofs.Sharing.{keyAt, Dimension, region-get, all-slots, slots-all, length-keysOf, bound-shared, sharing, differing}
+use Rattle.trie_build.proofs.Sharing.{Dimension, region-get, all-slots, slots-all, length-keysOf, bound-shared, sharing, differing}
 
 module _ (t : List ℕ) (n : ℕ) (room : n * slotSize ≤ length t) where
   -- slot k, whole

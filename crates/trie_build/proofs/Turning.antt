@@ -1,13 +1,12 @@
 -- The round of the two dimensions, by cases on the node above and on what differs. Assumes nothing.
-use mathlib.Core.Path.{_≡_, refl, sym, ap, _∙_}
-use mathlib.Core.Bool.{Bool, true, false, cond}
+use mathlib.Core.Path.{_≡_, refl, sym, _∙_}
+use mathlib.Core.Bool.{Bool, cond}
 use mathlib.Core.Option.{Option, none, some}
 use Prim.Native.Nat.{ℕ, zero, suc, _≤_}
-use mathlib.Core.List.{List}
 use native.Mathlib.Omega.{arith}
-use Rattle.trie_theory.specs.Dimensions.{Above, root, below, turn, two-dimensions}
+use Rattle.trie_theory.specs.Dimensions.{turn, two-dimensions}
 use Rattle.trie_read.specs.Shape.{aboveOf}
-use Rattle.trie_build.specs.Positions.{passes, kindOf}
+use Rattle.trie_build.specs.Positions.{passes}
 
 -- what one round gives: the first that passes
 abbrev pub first-of : Bool → ℕ → Bool → ℕ → Option ℕ

@@ -1,7 +1,7 @@
 -- Short paths are what the builder asks for. Assumes nothing.
 use borrow.Author.Needs.{needs}
 use native.Mathlib.Omega.{arith}
-use mathlib.Core.Path.{_≡_, sym, _∙_}
+use mathlib.Core.Path.{sym, _∙_}
 use lib.ListN.{drop}
 use Rattle.trie_build.proofs.Opening.{short-part}
 use Rattle.trie_build_vectors.proofs.level.Statement.{statement}

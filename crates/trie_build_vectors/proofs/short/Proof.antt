@@ -2,10 +2,8 @@
 use borrow.Author.Needs.{needs}
 use borrow.Author.Count.{below-more}
 use native.Mathlib.Omega.{arith}
-use Prim.Native.Nat.{ℕ, _+_, _*_, _-_, _≤_, _<_}
-use mathlib.Core.Path.{_≡_, refl}
+use Prim.Native.Nat.{ℕ, _-_, _≤_, _<_}
 use mathlib.Core.Bool.{false≢true}
-use lib.ListN.{length}
 use Rattle.rows.specs.Sizes.{lengthAt}
 use Rattle.matcher.specs.Bytes.{pathLimit}
 use Rattle.trie_build.specs.Positions.{slotByte}

@@ -1,9 +1,9 @@
 -- The split of the set, and its strings written. Assumes nothing.
 use borrow.Author.Needs.{needs}
 use native.Mathlib.Omega.{arith}
-use Prim.Native.Nat.{ℕ, _+_, _*_, _-_, _≤_, _<_}
-use mathlib.Core.Path.{_≡_, refl, sym, ap, _∙_}
-use lib.ListN.{length, drop}
+use Prim.Native.Nat.{ℕ, _+_, _*_, _-_}
+use mathlib.Core.Path.{_∙_}
+use lib.ListN.{drop}
 use Rattle.entries.specs.Slots.{slotSize}
 use Rattle.trie_build.specs.Sets.{keysOf}
 use Rattle.trie_build.specs.Positions.{Split}

@@ -2,17 +2,13 @@
 use borrow.Author.Needs.{needs}
 use borrow.Author.Count.{below-more}
 use native.Mathlib.Omega.{arith}
-use Prim.Native.Nat.{ℕ, _+_, _*_, _-_, _≤_, _<_}
-use mathlib.Core.Path.{_≡_, refl, ap, sym, _∙_}
-use mathlib.Core.Logic.{⊎-elim}
-use lib.ListN.{length, getD}
-use Rattle.entries.specs.Slots.{slotSize}
-use Rattle.trie_build.specs.Positions.{slotByte, Alike}
+use Prim.Native.Nat.{ℕ, _+_, _-_, _≤_, _<_}
+use mathlib.Core.Path.{_≡_}
+use lib.ListN.{getD}
+use Rattle.trie_build.specs.Positions.{slotByte}
 use Rattle.trie_build.proofs.Sets.{slot-zero, alike-more}
 use Rattle.trie_build.proofs.positions.common_bytes.Statement.{statement}
 use Rattle.trie_build.proofs.positions.common_bytes.Tie as tie
-use Rattle.trie_build.proofs.positions.common_bytes.Reads as reads
-use Rattle.trie_build.proofs.positions.common_bytes.Lts as lts
 
 abbrev Inv-loop : tie.InvT-loop
 Inv-loop slots n start from limit j at byte k₀ k = (1 ≤ k) × (k ≤ n) × ((i : ℕ) → i < k → slotByte slots i at ≡ byte)

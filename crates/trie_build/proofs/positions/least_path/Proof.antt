@@ -1,19 +1,13 @@
 -- The least of the slots passed. Assumes nothing.
 use borrow.Author.Needs.{needs}
-use borrow.Author.Count.{below-more}
 use native.Mathlib.Omega.{arith}
-use Prim.Native.Nat.{ℕ, _+_, _*_, _-_, _≤_, _<_}
-use mathlib.Core.Path.{_≡_, refl, ap, sym, _∙_}
+use Prim.Native.Nat.{_-_, _≤_}
+use mathlib.Core.Path.{_≡_}
 use mathlib.Core.Logic.{⊎-elim}
-use lib.ListN.{length, getD}
-use Rattle.entries.specs.Slots.{slotSize}
-use Rattle.rows.specs.Sizes.{lengthAt}
-use Rattle.trie_build.specs.Positions.{slotByte, Least}
+use Rattle.trie_build.specs.Positions.{Least}
 use Rattle.trie_build.proofs.Sets.{least-first, least-less, least-kept}
 use Rattle.trie_build.proofs.positions.least_path.Statement.{statement}
 use Rattle.trie_build.proofs.positions.least_path.Tie as tie
-use Rattle.trie_build.proofs.positions.least_path.Reads as reads
-use Rattle.trie_build.proofs.positions.least_path.Lts as lts
 
 abbrev Inv-loop : tie.InvT-loop
 Inv-loop slots n least₀ k₀ least k = (1 ≤ k) × (k ≤ n) × Least slots k least

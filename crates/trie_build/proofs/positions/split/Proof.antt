@@ -2,7 +2,7 @@
 use borrow.Author.Needs.{needs}
 use native.Mathlib.Omega.{arith}
 use Prim.Native.Nat.{ℕ, _+_, _≤_, _<_}
-use mathlib.Core.Path.{_≡_, refl, sym, ap, _∙_}
+use mathlib.Core.Path.{_≡_, sym, _∙_}
 use lib.ListN.{length, getD}
 use mathlib.Core.List.{List}
 use lib.Dec.{ltb}
@@ -11,7 +11,6 @@ use Rattle.trie_theory.specs.Strings.{at}
 use Rattle.trie_theory.specs.Position.{shared, differ}
 use Rattle.trie_build.specs.Sets.{keysOf}
 use Rattle.rows.specs.Sizes.{valueSize}
-use Rattle.trie_build.specs.Positions.{Least}
 use Rattle.trie_build.proofs.Splitting.{path-short, value-shared, value-differs, path-shared, path-differs, value-known, path-known, kind-many, kind-few}
 use Rattle.trie_build.proofs.positions.split.Statement.{statement}
 use Rattle.trie_build.proofs.positions.split.Tie as tie

@@ -1,5 +1,4 @@
 -- By cases on the node above and on what differs. Assumes nothing.
-use mathlib.Core.Path.{_≡_}
 use Rattle.trie_build.proofs.Turning.{turn-path, turn-value}
 use Rattle.trie_build.proofs.positions.turn_kind.Statement.{statement}
 use Rattle.trie_build.proofs.positions.turn_kind.Tie as tie
