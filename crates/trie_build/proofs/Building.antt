@@ -29,14 +29,14 @@ use Rattle.trie_theory.proofs.Fall.{undecided, parts-fall}
 use Rattle.trie_theory.proofs.Prefix.{From, shared-all}
 use Rattle.trie_theory.proofs.Parts.{partition}
 use Rattle.trie_read.specs.Shape.{aboveOf}
-use Rattle.trie_build.specs.Sets.{keysOf, shortPaths}
-use Rattle.trie_build.specs.Positions.{slotByte, kindOf}
-use Rattle.trie_build.specs.Partition.{slotsAt, withByte, byBytes, Parted}
+use Rattle.trie_sets.specs.Sets.{keysOf, shortPaths}
+use Rattle.trie_sets.specs.Positions.{slotByte, kindOf}
+use Rattle.trie_sets.specs.Partition.{slotsAt, withByte, byBytes, Parted}
 use Rattle.trie_build.specs.Nodes.{headBytes, restsBytes, Behind}
 use Rattle.trie_build.specs.Build.{Built, Ready, trieBytes, columnOf, Opened, Run}
-use Rattle.trie_build.proofs.Sharing.{keysOf-suc, all-slots, slots-all}
-use Rattle.trie_build.proofs.Splitting.{path-short}
-use Rattle.trie_build.proofs.Slotted.{region-same, slots-same}
+use Rattle.trie_sets.proofs.Sharing.{keysOf-suc, all-slots, slots-all}
+use Rattle.trie_sets.proofs.Splitting.{path-short}
+use Rattle.trie_sets.proofs.Slotted.{region-same, slots-same}
 use Rattle.trie_build.proofs.Columns.{column, slots-parts}
 use Rattle.trie_build.proofs.Noding.{leafBody, innerBody, leaf-node, inner-node, rests-leaf}
 use Rattle.trie_build.proofs.Opening.{shared-two, path-each, trie-room}

@@ -20,9 +20,9 @@ use Rattle.trie_theory.specs.Position.{shared, byte, differ}
 use Rattle.trie_theory.specs.Parts.{keep, partsFrom, parts}
 use Rattle.trie_theory.proofs.Parts.{flat-parts, differ-all}
 use Rattle.trie_theory.proofs.Differ.{byte-at}
-use Rattle.trie_build.specs.Partition.{withByte, byBytes}
+use Rattle.trie_sets.specs.Partition.{withByte, byBytes}
 use Rattle.trie_build.specs.Build.{columnOf}
-use Rattle.trie_build.proofs.Sharing.{region-get, first-of, first-end}
+use Rattle.trie_sets.proofs.Sharing.{region-get, first-of, first-end}
 
 -- the first byte behind j bytes of a stretch, where there is one
 first-region : (r : List ℕ) (a n j : ℕ) → first zero (drop j (region r a n) ∷ []) < 256 → first zero (drop j (region r a n) ∷ []) ≡ getD r (a + j) 0

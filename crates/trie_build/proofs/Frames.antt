@@ -9,9 +9,9 @@ use lib.Seq.{ext-getD, getD-drop, take-add}
 use Rattle.buffer.specs.Splice.{splice, region}
 use Rattle.buffer.proofs.Splice.{splice-is, length-splice, region-at, region-after, region-add}
 use Rattle.entries.specs.Slots.{slotSize}
-use Rattle.trie_build.specs.Partition.{Parted}
+use Rattle.trie_sets.specs.Partition.{Parted}
 use Rattle.trie_build.specs.Build.{Built}
-use Rattle.trie_build.proofs.Slotted.{getD-outside, region-same}
+use Rattle.trie_sets.proofs.Slotted.{getD-outside, region-same}
 
 pub splice-built : (s s′ : List ℕ) (o slots scratch n : ℕ) (b : List ℕ) → o + length b ≤ length s → s′ ≡ splice s o b → Built s o slots scratch n b s′
 splice-built s s′ o slots scratch n b h e =

@@ -19,11 +19,11 @@ use Rattle.trie_theory.proofs.LevelBytes.{bytesOf}
 use Rattle.trie_theory.proofs.Fall.{undecided}
 use Rattle.trie_theory.proofs.Prefix.{From, prefixes-at, prefix-length}
 use Rattle.trie_theory.proofs.Parts.{Partition, done, part}
-use Rattle.trie_build.specs.Sets.{keysOf}
-use Rattle.trie_build.specs.Partition.{Outside}
+use Rattle.trie_sets.specs.Sets.{keysOf}
+use Rattle.trie_sets.specs.Partition.{Outside}
 use Rattle.trie_build.specs.Build.{Built, trieBytes, Run}
-use Rattle.trie_build.proofs.Sharing.{length-keysOf}
-use Rattle.trie_build.proofs.Slotted.{region-same, slots-same}
+use Rattle.trie_sets.proofs.Sharing.{length-keysOf}
+use Rattle.trie_sets.proofs.Slotted.{region-same, slots-same}
 use Rattle.trie_build.proofs.Columns.{column}
 use Rattle.trie_build.proofs.Runs.{Taken, first-part}
 use Rattle.trie_build.proofs.Noding.{part-bytes}

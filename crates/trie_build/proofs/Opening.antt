@@ -22,13 +22,13 @@ use Rattle.trie_theory.specs.Level.{choice}
 use Rattle.trie_theory.proofs.Prefix.{Prefix, prefixes-at, shared-all}
 use Rattle.trie_theory.proofs.Strings.{length-shared}
 use Rattle.trie_read.specs.Shape.{aboveOf}
-use Rattle.trie_build.specs.Sets.{keysOf, shortPaths}
-use Rattle.trie_build.specs.Positions.{slotByte, Split}
+use Rattle.trie_sets.specs.Sets.{keysOf, shortPaths}
+use Rattle.trie_sets.specs.Positions.{slotByte, Split}
 use Rattle.trie_build.specs.Nodes.{headBytes}
 use Rattle.trie_build.specs.Build.{trieBytes, Opened}
-use Rattle.trie_build.proofs.Sharing.{keyAt, Dimension, keys-all, all-keys, keysOf-suc, prefix-get, bound-shared, region-get}
-use Rattle.trie_build.proofs.Splitting.{value-dimension, path-dimension, path-short}
-use Rattle.trie_build.proofs.Slotted.{slots-part}
+use Rattle.trie_sets.proofs.Sharing.{keyAt, Dimension, keys-all, all-keys, keysOf-suc, prefix-get, bound-shared, region-get}
+use Rattle.trie_sets.proofs.Splitting.{value-dimension, path-dimension, path-short}
+use Rattle.trie_sets.proofs.Slotted.{slots-part}
 use Rattle.trie_build.proofs.Noding.{leafBody, innerBody, leaf-node, inner-node}
 
 -- keys of slots have two strings, and so has what they share

@@ -19,11 +19,11 @@ use Rattle.trie_theory.specs.Strings.{at}
 use Rattle.trie_theory.specs.Position.{shared, byte}
 use Rattle.trie_theory.proofs.Prefix.{Prefixes, From}
 use Rattle.trie_theory.proofs.Parts.{Partition, done, part, part-from}
-use Rattle.trie_build.specs.Sets.{keysOf}
-use Rattle.trie_build.specs.Positions.{slotByte}
+use Rattle.trie_sets.specs.Sets.{keysOf}
+use Rattle.trie_sets.specs.Positions.{slotByte}
 use Rattle.trie_build.specs.Build.{Run}
-use Rattle.trie_build.proofs.Sets.{slot-zero}
-use Rattle.trie_build.proofs.Sharing.{keyAt, keys-all, keysOf-suc, length-keysOf, region-get}
+use Rattle.trie_sets.proofs.Sets.{slot-zero}
+use Rattle.trie_sets.proofs.Sharing.{keyAt, keys-all, keysOf-suc, length-keysOf, region-get}
 use Rattle.trie_build.proofs.Columns.{column, slot-first}
 
 -- ---- the first keys of slots, and the others

@@ -13,8 +13,8 @@ use Rattle.entries.specs.Slots.{slotSize, slotKey}
 use Rattle.trie_theory.specs.Strings.{at}
 use Rattle.trie_theory.specs.Encode.{suffixBytes}
 use Rattle.trie_build.specs.Nodes.{rest, Behind}
-use Rattle.trie_build.proofs.Sharing.{region-get}
-use Rattle.trie_build.proofs.Slotted.{drop-take}
+use Rattle.trie_sets.proofs.Sharing.{region-get}
+use Rattle.trie_sets.proofs.Slotted.{drop-take}
 
 -- a stretch of a stretch
 pub region-region : (s : List ℕ) (a m b n : ℕ) → b + n ≤ m → region (region s a m) b n ≡ region s (a + b) n

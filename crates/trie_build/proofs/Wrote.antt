@@ -14,7 +14,7 @@ use Rattle.rows.specs.Sizes.{lengthAt}
 use Rattle.rows.proofs.Records.{records-suc}
 use Rattle.entries.specs.Slots.{slotSize}
 use Rattle.trie_theory.specs.Encode.{suffixBytes}
-use Rattle.trie_build.specs.Partition.{slotsAt}
+use Rattle.trie_sets.specs.Partition.{slotsAt}
 use Rattle.trie_build.specs.Nodes.{rest, restsBytes, Behind}
 use Rattle.trie_build.proofs.Writing.{behind}
 

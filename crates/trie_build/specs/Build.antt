@@ -14,9 +14,9 @@ use Rattle.trie_theory.specs.Level.{trie}
 use Rattle.trie_theory.specs.Encode.{encode}
 use Rattle.trie_read.specs.Shape.{aboveOf}
 use Rattle.entries.specs.Slots.{slotSize}
-use Rattle.trie_build.specs.Positions.{slotByte, Split}
-use Rattle.trie_build.specs.Sets.{keysOf, shortPaths}
-use Rattle.trie_build.specs.Partition.{Outside}
+use Rattle.trie_sets.specs.Positions.{slotByte, Split}
+use Rattle.trie_sets.specs.Sets.{keysOf, shortPaths}
+use Rattle.trie_sets.specs.Partition.{Outside}
 
 -- room for a level: as many bytes for each entry are enough (law `figures` of trie_theory)
 abbrev pub entryRoom : ℕ

@@ -1,5 +1,2 @@
-pub mod Sets
-pub mod Positions
-pub mod Partition
 pub mod Nodes
 pub mod Build

@@ -9,7 +9,7 @@ ghost use mathlib.Core.Bool.{true};
 ghost use Prim.Native.Nat.{_*_, _≤_, _<_};
 ghost use lib.ListN.{length};
 ghost use Rattle.entries.specs.Slots.{slotSize};
-ghost use Rattle.trie_build.specs.Sets.{shortPaths};
+ghost use Rattle.trie_sets.specs.Sets.{shortPaths};
 
 const NEWLINE: [u8; 1] = [10];
 

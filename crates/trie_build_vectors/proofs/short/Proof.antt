@@ -6,8 +6,8 @@ use Prim.Native.Nat.{ℕ, _-_, _≤_, _<_}
 use mathlib.Core.Bool.{false≢true}
 use Rattle.rows.specs.Sizes.{lengthAt}
 use Rattle.matcher.specs.Bytes.{pathLimit}
-use Rattle.trie_build.specs.Positions.{slotByte}
-use Rattle.trie_build.proofs.Splitting.{short-paths}
+use Rattle.trie_sets.specs.Positions.{slotByte}
+use Rattle.trie_sets.proofs.Splitting.{short-paths}
 use Rattle.trie_build_vectors.proofs.short.Statement.{statement}
 use Rattle.trie_build_vectors.proofs.short.Tie as tie
 
