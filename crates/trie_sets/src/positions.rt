@@ -1,5 +1,6 @@
 // Discriminative positions (Definition 5), and the dimension in which a set is partitioned (Definition 7).
 use entries::SLOT_SIZE;
+use matcher::bytes::PATH_LIMIT;
 use rows::sizes::LENGTH_AT;
 use rows::sizes::PATH_AT;
 use rows::sizes::VALUE_SIZE;
@@ -19,6 +20,21 @@ pub fn wide(b: u8) -> usize
     ensures { λ r. ⌜ (r ≡ b) × (r < 256) ⌝ }
 {
     b as usize
+}
+
+// Is no path in the slots longer than a path may be?
+pub fn paths_are_short(slots: &[u8], n: usize) -> bool
+    requires { ⌜ n * slotSize ≤ length (now slots) ⌝ }
+    ensures { λ r. ⌜ r ≡ shortPaths n (now (slots .entry)) ⌝ }
+{
+    let mut k: usize = 0;
+    while k < n {
+        if wide(slots[k * SLOT_SIZE + LENGTH_AT]) > PATH_LIMIT {
+            return false;
+        }
+        k += 1;
+    }
+    true
 }
 
 // The least path length of the slots.
