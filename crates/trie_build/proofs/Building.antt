@@ -33,7 +33,8 @@ use Rattle.trie_sets.specs.Sets.{keysOf, shortPaths}
 use Rattle.trie_sets.specs.Positions.{slotByte, kindOf}
 use Rattle.trie_sets.specs.Partition.{slotsAt, withByte, byBytes, Parted}
 use Rattle.trie_build.specs.Nodes.{headBytes, restsBytes, Behind}
-use Rattle.trie_build.specs.Build.{Built, Ready, trieBytes, columnOf, Opened, Run}
+use Rattle.trie_build.specs.Build.{Built}
+use Rattle.trie_build.specs.Steps.{Ready, trieBytes, columnOf, Opened, Run}
 use Rattle.trie_sets.proofs.Sharing.{keysOf-suc, all-slots, slots-all}
 use Rattle.trie_sets.proofs.Splitting.{path-short}
 use Rattle.trie_sets.proofs.Slotted.{region-same, slots-same}

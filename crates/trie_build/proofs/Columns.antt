@@ -21,7 +21,7 @@ use Rattle.trie_theory.specs.Parts.{keep, partsFrom, parts}
 use Rattle.trie_theory.proofs.Parts.{flat-parts, differ-all}
 use Rattle.trie_theory.proofs.Differ.{byte-at}
 use Rattle.trie_sets.specs.Partition.{withByte, byBytes}
-use Rattle.trie_build.specs.Build.{columnOf}
+use Rattle.trie_build.specs.Steps.{columnOf}
 use Rattle.trie_sets.proofs.Sharing.{region-get, first-of, first-end}
 
 -- the first byte behind j bytes of a stretch, where there is one

@@ -21,7 +21,8 @@ use Rattle.trie_theory.proofs.Prefix.{From, prefixes-at, prefix-length}
 use Rattle.trie_theory.proofs.Parts.{Partition, done, part}
 use Rattle.trie_sets.specs.Sets.{keysOf}
 use Rattle.trie_sets.specs.Partition.{Outside}
-use Rattle.trie_build.specs.Build.{Built, trieBytes, Run}
+use Rattle.trie_build.specs.Build.{Built}
+use Rattle.trie_build.specs.Steps.{trieBytes, Run}
 use Rattle.trie_sets.proofs.Sharing.{length-keysOf}
 use Rattle.trie_sets.proofs.Slotted.{region-same, slots-same}
 use Rattle.trie_build.proofs.Columns.{column}

@@ -16,7 +16,8 @@ use Rattle.trie_theory.specs.Level.{levelOf}
 use Rattle.trie_theory.specs.Encode.{encode, Twenty}
 use Rattle.trie_theory.proofs.TrieOf.{level-trie, figures}
 use Rattle.trie_sets.specs.Sets.{keysOf, shortPaths}
-use Rattle.trie_build.specs.Build.{entryRoom, Built, Ready, trieBytes}
+use Rattle.trie_build.specs.Build.{entryRoom, Built}
+use Rattle.trie_build.specs.Steps.{Ready, trieBytes}
 use Rattle.trie_sets.proofs.Sharing.{keyAt, all-keys, keysOf-suc, length-keysOf}
 use Rattle.trie_sets.proofs.Splitting.{slot-whole, value-dimension, path-dimension, path-short}
 use Rattle.trie_build.proofs.Opening.{shared-two}

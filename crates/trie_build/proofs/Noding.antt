@@ -22,7 +22,7 @@ use Rattle.trie_theory.proofs.Strings.{drop-prefix}
 use Rattle.trie_read.specs.Shape.{aboveOf}
 use Rattle.entries.specs.Slots.{slotKey}
 use Rattle.trie_build.specs.Nodes.{headBytes, rest, restsBytes}
-use Rattle.trie_build.specs.Build.{known, trieBytes}
+use Rattle.trie_build.specs.Steps.{known, trieBytes}
 
 -- strings behind the first bytes of them
 strip-known : (v p : ℕ) (s : Strings) → length s ≡ 2 → v ≤ length (at 0 s) → p ≤ length (at 1 s)

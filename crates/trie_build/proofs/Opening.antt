@@ -25,7 +25,7 @@ use Rattle.trie_read.specs.Shape.{aboveOf}
 use Rattle.trie_sets.specs.Sets.{keysOf, shortPaths}
 use Rattle.trie_sets.specs.Positions.{slotByte, Split}
 use Rattle.trie_build.specs.Nodes.{headBytes}
-use Rattle.trie_build.specs.Build.{trieBytes, Opened}
+use Rattle.trie_build.specs.Steps.{trieBytes, Opened}
 use Rattle.trie_sets.proofs.Sharing.{keyAt, Dimension, keys-all, all-keys, keysOf-suc, prefix-get, bound-shared, region-get}
 use Rattle.trie_sets.proofs.Splitting.{value-dimension, path-dimension, path-short}
 use Rattle.trie_sets.proofs.Slotted.{slots-part}

@@ -21,7 +21,7 @@ use Rattle.trie_theory.proofs.Prefix.{Prefixes, From}
 use Rattle.trie_theory.proofs.Parts.{Partition, done, part, part-from}
 use Rattle.trie_sets.specs.Sets.{keysOf}
 use Rattle.trie_sets.specs.Positions.{slotByte}
-use Rattle.trie_build.specs.Build.{Run}
+use Rattle.trie_build.specs.Steps.{Run}
 use Rattle.trie_sets.proofs.Sets.{slot-zero}
 use Rattle.trie_sets.proofs.Sharing.{keyAt, keys-all, keysOf-suc, length-keysOf, region-get}
 use Rattle.trie_build.proofs.Columns.{column, slot-first}

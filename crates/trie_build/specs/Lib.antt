@@ -1,2 +1,3 @@
-pub mod Nodes
 pub mod Build
+pub mod Nodes
+pub mod Steps

@@ -17,7 +17,8 @@ ghost use Rattle.trie_theory.specs.Position.{shared};
 ghost use Rattle.trie_theory.specs.Level.{levelOf};
 ghost use Rattle.trie_theory.specs.Encode.{encode};
 ghost use Rattle.trie_sets.specs.Sets.{keysOf, shortPaths};
-ghost use Rattle.trie_build.specs.Build.{entryRoom, Built, Ready, trieBytes, columnOf, Run, Opened};
+ghost use Rattle.trie_build.specs.Build.{entryRoom, Built};
+ghost use Rattle.trie_build.specs.Steps.{Ready, trieBytes, columnOf, Run, Opened};
 
 // How many of the first slots have the first one's byte in a column.
 fn run(slots: &[u8], n: usize, column: usize) -> usize

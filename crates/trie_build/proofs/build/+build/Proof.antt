@@ -14,7 +14,7 @@ use Rattle.trie_sets.specs.Sets.{keysOf}
 use Rattle.trie_theory.specs.Position.{shared}
 use Rattle.trie_theory.specs.Parts.{parts}
 use Rattle.trie_sets.specs.Partition.{Parted}
-use Rattle.trie_build.specs.Build.{Ready, Opened, columnOf, Run}
+use Rattle.trie_build.specs.Steps.{Ready, Opened, columnOf, Run}
 use Rattle.trie_build.proofs.Going.{Going}
 use Rattle.trie_build.proofs.Runs.{run-whole}
 use Rattle.trie_build.proofs.Building as law
