@@ -1,43 +1,43 @@
 -- One call of the builder: what it knows of its set once the node is opened, a leaf, an inner node, and what it asks of the builder
 -- for each part. Assumes nothing.
-use mathlib.Core.Path.{_≡_, refl, sym, ap, ap₂, _∙_}
-use mathlib.Core.Bool.{Bool, true, cond}
+use mathlib.Core.Path.{_≡_, refl, sym, ap, _∙_}
+use mathlib.Core.Bool.{true}
 use mathlib.Core.Option.{Option, none, some}
 use Prim.Native.Nat.{ℕ, zero, suc, _+_, _*_, _-_, _^_, _≤_, _<_}
-use mathlib.Core.List.{List, [], _∷_, _++_, map}
+use mathlib.Core.List.{List, _++_, map}
 use native.Mathlib.Omega.{arith}
 use lib.ListN.{length, getD, take, drop, length-append, length-drop}
 use lib.Seq.{drop-drop, getD-drop}
 use lib.Dec.{eqb}
-use Rattle.buffer.specs.Lists.{All, nil, cons, flat, all, pick}
+use Rattle.buffer.specs.Lists.{All, nil, flat}
 use Rattle.buffer.specs.Splice.{splice, region}
 use Rattle.buffer.proofs.Lists.{all-imp, all-pick, all-append, all-test, all-tested}
 use Rattle.buffer.proofs.Digits.{length-bytesOf}
 use Rattle.buffer.proofs.Splice.{length-splice, getD-after}
 use Rattle.matcher.specs.Bytes.{pathLimit}
-use Rattle.rows.specs.Sizes.{valueSize, lengthAt, pathAt}
-use Rattle.rows.specs.Records.{records}
+use Rattle.rows.specs.Sizes.{valueSize, lengthAt}
 use Rattle.rows.proofs.Records.{record-inside}
 use Rattle.entries.specs.Slots.{slotSize, slotKey, shortPath}
-use Rattle.trie_theory.specs.Forest.{Strings, Key}
+use Rattle.trie_theory.specs.Forest.{Key}
 use Rattle.trie_theory.specs.Strings.{at}
-use Rattle.trie_theory.specs.Dimensions.{Above, root, below, wanted, next}
+use Rattle.trie_theory.specs.Dimensions.{wanted, next}
 use Rattle.trie_theory.specs.Position.{shared, differ}
 use Rattle.trie_theory.specs.Parts.{parts}
 use Rattle.trie_theory.specs.Level.{choice}
 use Rattle.trie_theory.proofs.LevelStep.{choice-differ, choice-inside}
 use Rattle.trie_theory.proofs.Fall.{undecided, parts-fall}
 use Rattle.trie_theory.proofs.Prefix.{From, shared-all}
-use Rattle.trie_theory.proofs.Parts.{Partition, partition}
+use Rattle.trie_theory.proofs.Parts.{partition}
 use Rattle.trie_read.specs.Shape.{aboveOf}
-use Rattle.trie_build.specs.Sets.{keysOf, shortPaths}
-use Rattle.trie_build.specs.Positions.{slotByte, kindOf, Split}
-use Rattle.trie_build.specs.Partition.{slotsAt, Outside, withByte, byBytes, Parted}
+use Rattle.trie_sets.specs.Sets.{keysOf, shortPaths}
+use Rattle.trie_sets.specs.Positions.{slotByte, kindOf}
+use Rattle.trie_sets.specs.Partition.{slotsAt, withByte, byBytes, Parted}
 use Rattle.trie_build.specs.Nodes.{headBytes, restsBytes, Behind}
-use Rattle.trie_build.specs.Build.{Built, Ready, trieBytes, columnOf, Opened, Run}
-use Rattle.trie_build.proofs.Sharing.{keysOf-suc, all-slots, slots-all}
-use Rattle.trie_build.proofs.Splitting.{path-short}
-use Rattle.trie_build.proofs.Slotted.{region-same, slots-same}
+use Rattle.trie_build.specs.Build.{Built}
+use Rattle.trie_build.specs.Steps.{Ready, trieBytes, columnOf, Opened, Run}
+use Rattle.trie_sets.proofs.Sharing.{keysOf-suc, all-slots, slots-all}
+use Rattle.trie_sets.proofs.Splitting.{path-short}
+use Rattle.trie_sets.proofs.Slotted.{region-same, slots-same}
 use Rattle.trie_build.proofs.Columns.{column, slots-parts}
 use Rattle.trie_build.proofs.Noding.{leafBody, innerBody, leaf-node, inner-node, rests-leaf}
 use Rattle.trie_build.proofs.Opening.{shared-two, path-each, trie-room}

@@ -2,29 +2,27 @@
 -- Assumes nothing.
 use mathlib.Core.Path.{_≡_, refl, sym, ap, ap₂, _∙_}
 use mathlib.Core.Bool.{Bool, true, false, cond}
-use Prim.Native.Nat.{ℕ, zero, suc, _+_, _*_, _≤_, _<_, min}
+use Prim.Native.Nat.{ℕ, zero, suc, _+_, _<_}
 use mathlib.Core.List.{List, [], _∷_, _++_, map}
 use native.Mathlib.Omega.{arith}
 use native.Mathlib.Nat.{zero-add}
-use lib.ListN.{length, getD, take, drop, length-take}
+use lib.ListN.{length, getD, drop, length-take}
 use lib.Dec.{eqb, ltb}
 use borrow.Author.Tests.{ltb-true, ltb-false}
 use Rattle.buffer.specs.Lists.{All, nil, cons, pick, flat}
 use Rattle.buffer.proofs.Lists.{map-append, all-unmap}
 use Rattle.buffer.specs.Splice.{region}
-use Rattle.rows.specs.Records.{records}
 use Rattle.rows.specs.Sizes.{valueSize, lengthAt, pathAt}
-use Rattle.entries.specs.Slots.{slotSize, slotKey}
+use Rattle.entries.specs.Slots.{slotKey}
 use Rattle.trie_theory.specs.Forest.{Strings, Key}
 use Rattle.trie_theory.specs.Strings.{at, first}
 use Rattle.trie_theory.specs.Position.{shared, byte, differ}
 use Rattle.trie_theory.specs.Parts.{keep, partsFrom, parts}
 use Rattle.trie_theory.proofs.Parts.{flat-parts, differ-all}
 use Rattle.trie_theory.proofs.Differ.{byte-at}
-use Rattle.trie_build.specs.Sets.{keysOf}
-use Rattle.trie_build.specs.Partition.{slotsAt, withByte, byBytes}
-use Rattle.trie_build.specs.Build.{columnOf}
-use Rattle.trie_build.proofs.Sharing.{region-get, first-of, first-end}
+use Rattle.trie_sets.specs.Partition.{withByte, byBytes}
+use Rattle.trie_build.specs.Steps.{columnOf}
+use Rattle.trie_sets.proofs.Sharing.{region-get, first-of, first-end}
 
 -- the first byte behind j bytes of a stretch, where there is one
 first-region : (r : List ℕ) (a n j : ℕ) → first zero (drop j (region r a n) ∷ []) < 256 → first zero (drop j (region r a n) ∷ []) ≡ getD r (a + j) 0

@@ -13,8 +13,8 @@ use Rattle.rows.specs.Records.{records}
 use Rattle.entries.specs.Keys.{entryKey}
 use Rattle.entries.specs.Slots.{slotSize, slot, slotKey, shortPath}
 use Rattle.entries.proofs.Slots.{records-slots, slot-key, slot-short}
-use Rattle.trie_build.specs.Sets.{keysOf, shortPaths}
-use Rattle.trie_build.proofs.Slotted.{slots-part}
+use Rattle.trie_sets.specs.Sets.{keysOf, shortPaths}
+use Rattle.trie_sets.proofs.Slotted.{slots-part}
 
 keys-each : (es : List Entry) → all fitsRow es ≡ true → map slotKey (map slot es) ≡ map entryKey es
 keys-each [] h = refl

@@ -1,17 +1,17 @@
 -- What a builder leaves, put together: a splice, a sort and what is built then, a node from its strings, its body and its head.
 -- Assumes nothing.
-use mathlib.Core.Path.{_≡_, refl, sym, ap, ap₂, _∙_}
-use Prim.Native.Nat.{ℕ, zero, suc, _+_, _*_, _-_, _≤_, _<_}
+use mathlib.Core.Path.{_≡_, sym, ap, _∙_}
+use Prim.Native.Nat.{ℕ, _+_, _*_, _-_, _≤_}
 use mathlib.Core.List.{List, _++_, append-assoc}
 use native.Mathlib.Omega.{arith}
-use lib.ListN.{length, getD, take, drop, length-append, length-drop}
+use lib.ListN.{length, take, drop, length-append, length-drop}
 use lib.Seq.{ext-getD, getD-drop, take-add}
 use Rattle.buffer.specs.Splice.{splice, region}
 use Rattle.buffer.proofs.Splice.{splice-is, length-splice, region-at, region-after, region-add}
 use Rattle.entries.specs.Slots.{slotSize}
-use Rattle.trie_build.specs.Partition.{Outside, Parted}
+use Rattle.trie_sets.specs.Partition.{Parted}
 use Rattle.trie_build.specs.Build.{Built}
-use Rattle.trie_build.proofs.Slotted.{getD-outside, region-same}
+use Rattle.trie_sets.proofs.Slotted.{getD-outside, region-same}
 
 pub splice-built : (s s′ : List ℕ) (o slots scratch n : ℕ) (b : List ℕ) → o + length b ≤ length s → s′ ≡ splice s o b → Built s o slots scratch n b s′
 splice-built s s′ o slots scratch n b h e =

@@ -1,17 +1,15 @@
 -- The loop over the parts of a set: some tries are built, the others are still to come; one part more. Assumes nothing.
 use mathlib.Core.Path.{_≡_, refl, sym, ap, ap₂, _∙_}
-use mathlib.Core.Bool.{Bool, true}
-use Prim.Native.Nat.{ℕ, zero, suc, _+_, _*_, _-_, _≤_, _<_}
-use mathlib.Core.List.{List, [], _∷_, _++_, append-assoc, append-nil, map}
+use Prim.Native.Nat.{ℕ, suc, _+_, _*_, _-_, _≤_, _<_}
+use mathlib.Core.List.{List, [], _++_, append-assoc, append-nil, map}
 use native.Mathlib.Omega.{arith}
 use native.Mathlib.Nat.{sub-self}
-use lib.ListN.{length, getD, take, drop, length-append}
+use lib.ListN.{length, getD, drop, length-append}
 use lib.Seq.{drop-drop}
-use Rattle.buffer.specs.Lists.{All, nil, cons, flat}
+use Rattle.buffer.specs.Lists.{All, flat}
 use Rattle.buffer.specs.Splice.{region}
 use Rattle.buffer.proofs.Lists.{all-head, all-tail}
 use Rattle.buffer.proofs.Splice.{region-add}
-use Rattle.rows.proofs.Records.{record-inside}
 use Rattle.entries.specs.Slots.{slotSize, slotKey}
 use Rattle.trie_theory.specs.Forest.{Strings, Key}
 use Rattle.trie_theory.specs.Strings.{at}
@@ -19,13 +17,14 @@ use Rattle.trie_theory.specs.Dimensions.{below}
 use Rattle.trie_theory.specs.Position.{shared}
 use Rattle.trie_theory.proofs.LevelBytes.{bytesOf}
 use Rattle.trie_theory.proofs.Fall.{undecided}
-use Rattle.trie_theory.proofs.Prefix.{Prefixes, From, prefixes-at, prefix-length}
+use Rattle.trie_theory.proofs.Prefix.{From, prefixes-at, prefix-length}
 use Rattle.trie_theory.proofs.Parts.{Partition, done, part}
-use Rattle.trie_build.specs.Sets.{keysOf}
-use Rattle.trie_build.specs.Partition.{slotsAt, Outside}
-use Rattle.trie_build.specs.Build.{Built, trieBytes, Run}
-use Rattle.trie_build.proofs.Sharing.{length-keysOf}
-use Rattle.trie_build.proofs.Slotted.{region-same, slots-same}
+use Rattle.trie_sets.specs.Sets.{keysOf}
+use Rattle.trie_sets.specs.Partition.{Outside}
+use Rattle.trie_build.specs.Build.{Built}
+use Rattle.trie_build.specs.Steps.{trieBytes, Run}
+use Rattle.trie_sets.proofs.Sharing.{length-keysOf}
+use Rattle.trie_sets.proofs.Slotted.{region-same, slots-same}
 use Rattle.trie_build.proofs.Columns.{column}
 use Rattle.trie_build.proofs.Runs.{Taken, first-part}
 use Rattle.trie_build.proofs.Noding.{part-bytes}

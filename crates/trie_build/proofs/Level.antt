@@ -1,27 +1,25 @@
 -- The whole level: it fits its room, and the builder of a set at the root writes it. Assumes nothing.
-use mathlib.Core.Path.{_≡_, refl, sym, ap, _∙_}
+use mathlib.Core.Path.{_≡_, refl}
 use mathlib.Core.Bool.{true}
 use Prim.Native.Nat.{ℕ, zero, suc, _+_, _*_, _^_, _≤_, _<_}
-use mathlib.Core.List.{List, [], _∷_}
+use mathlib.Core.List.{List, []}
 use native.Mathlib.Omega.{arith}
-use lib.ListN.{length, getD, take, drop, length-drop}
-use Rattle.buffer.specs.Lists.{All}
+use lib.ListN.{length, take, drop, length-drop}
 use Rattle.buffer.specs.Splice.{region}
 use Rattle.buffer.proofs.Splice.{length-region}
 use Rattle.rows.specs.Records.{records}
-use Rattle.rows.specs.Sizes.{valueSize, referenceSize, referenceAt, lengthAt, pathAt}
+use Rattle.rows.specs.Sizes.{referenceSize, referenceAt}
 use Rattle.entries.specs.Slots.{slotSize, slotKey}
-use Rattle.trie_theory.specs.Forest.{Key}
 use Rattle.trie_theory.specs.Strings.{at, total}
-use Rattle.trie_theory.specs.Position.{shared}
 use Rattle.trie_theory.specs.Sound.{Wide}
 use Rattle.trie_theory.specs.Level.{levelOf}
 use Rattle.trie_theory.specs.Encode.{encode, Twenty}
 use Rattle.trie_theory.proofs.TrieOf.{level-trie, figures}
-use Rattle.trie_build.specs.Sets.{keysOf, shortPaths}
-use Rattle.trie_build.specs.Build.{entryRoom, Built, Ready, trieBytes}
-use Rattle.trie_build.proofs.Sharing.{keyAt, all-keys, keysOf-suc, length-keysOf}
-use Rattle.trie_build.proofs.Splitting.{slot-whole, value-dimension, path-dimension, path-short}
+use Rattle.trie_sets.specs.Sets.{keysOf, shortPaths}
+use Rattle.trie_build.specs.Build.{entryRoom, Built}
+use Rattle.trie_build.specs.Steps.{Ready, trieBytes}
+use Rattle.trie_sets.proofs.Sharing.{keyAt, all-keys, keysOf-suc, length-keysOf}
+use Rattle.trie_sets.proofs.Splitting.{slot-whole, value-dimension, path-dimension, path-short}
 use Rattle.trie_build.proofs.Opening.{shared-two}
 use Rattle.trie_build.proofs.Noding.{root-bytes}
 

@@ -1,16 +1,16 @@
 -- The bytes of a set's trie: the head of its node, its strings, and a body. Assumes nothing.
 use mathlib.Core.Path.{_≡_, refl, sym, ap, ap₂, _∙_}
 use mathlib.Core.Option.{Option, none, some}
-use Prim.Native.Nat.{ℕ, zero, suc, _+_, _*_, _≤_, _<_}
+use Prim.Native.Nat.{ℕ, suc, _≤_}
 use mathlib.Core.List.{List, [], _∷_, _++_, append-assoc, append-nil, map}
 use native.Mathlib.Omega.{arith}
-use lib.ListN.{length, getD, take, drop, length-append, length-drop}
+use lib.ListN.{length, take, drop}
 use lib.Seq.{length-take-le, take-at}
-use Rattle.buffer.specs.Lists.{All, flat}
+use Rattle.buffer.specs.Lists.{flat}
 use Rattle.buffer.specs.Numbers.{bytesOf}
 use Rattle.trie_theory.specs.Forest.{Strings, Key, Forest}
 use Rattle.trie_theory.specs.Strings.{at, strip, remains}
-use Rattle.trie_theory.specs.Dimensions.{Above, root, below}
+use Rattle.trie_theory.specs.Dimensions.{root, below}
 use Rattle.trie_theory.specs.Position.{shared}
 use Rattle.trie_theory.specs.Parts.{parts}
 use Rattle.trie_theory.specs.Level.{choice, node, each, trie, levelOf}
@@ -19,10 +19,10 @@ use Rattle.trie_theory.proofs.LevelBytes as levels
 use Rattle.trie_theory.proofs.LevelStep.{trie-step}
 use Rattle.trie_theory.proofs.Prefix.{Prefix, Prefixes}
 use Rattle.trie_theory.proofs.Strings.{drop-prefix}
-use Rattle.trie_read.specs.Shape.{aboveOf, keyOf}
+use Rattle.trie_read.specs.Shape.{aboveOf}
 use Rattle.entries.specs.Slots.{slotKey}
 use Rattle.trie_build.specs.Nodes.{headBytes, rest, restsBytes}
-use Rattle.trie_build.specs.Build.{known, trieBytes}
+use Rattle.trie_build.specs.Steps.{known, trieBytes}
 
 -- strings behind the first bytes of them
 strip-known : (v p : ℕ) (s : Strings) → length s ≡ 2 → v ≤ length (at 0 s) → p ≤ length (at 1 s)

@@ -1,15 +1,14 @@
 -- The strings of a node as bytes of its first slot, and the room that a trie takes. Assumes nothing.
-use mathlib.Core.Path.{_≡_, refl, sym, ap, ap₂, _∙_}
+use mathlib.Core.Path.{_≡_, refl, sym, ap, _∙_}
 use mathlib.Core.Bool.{true}
 use mathlib.Core.Option.{Option, none, some}
 use Prim.Native.Nat.{ℕ, zero, suc, _+_, _*_, _-_, _≤_, _<_}
-use mathlib.Core.List.{List, [], _∷_, _++_, map}
+use mathlib.Core.List.{List, _++_, map}
 use native.Mathlib.Omega.{arith}
 use lib.ListN.{length, getD, take, drop, length-append, length-drop}
 use lib.Seq.{ext-getD, getD-drop}
-use Rattle.buffer.specs.Lists.{All, all}
+use Rattle.buffer.specs.Lists.{all}
 use Rattle.buffer.specs.Splice.{splice, region}
-use Rattle.buffer.specs.Numbers.{bytesOf}
 use Rattle.buffer.proofs.Digits.{length-bytesOf}
 use Rattle.buffer.proofs.Lists.{all-imp}
 use Rattle.buffer.proofs.Splice.{length-region}
@@ -23,13 +22,13 @@ use Rattle.trie_theory.specs.Level.{choice}
 use Rattle.trie_theory.proofs.Prefix.{Prefix, prefixes-at, shared-all}
 use Rattle.trie_theory.proofs.Strings.{length-shared}
 use Rattle.trie_read.specs.Shape.{aboveOf}
-use Rattle.trie_build.specs.Sets.{keysOf, shortPaths}
-use Rattle.trie_build.specs.Positions.{slotByte, Split}
+use Rattle.trie_sets.specs.Sets.{keysOf, shortPaths}
+use Rattle.trie_sets.specs.Positions.{slotByte, Split}
 use Rattle.trie_build.specs.Nodes.{headBytes}
-use Rattle.trie_build.specs.Build.{trieBytes, Opened}
-use Rattle.trie_build.proofs.Sharing.{keyAt, Dimension, keys-all, all-keys, keysOf-suc, prefix-get, bound-shared, region-get}
-use Rattle.trie_build.proofs.Splitting.{value-dimension, path-dimension, path-short}
-use Rattle.trie_build.proofs.Slotted.{slots-part}
+use Rattle.trie_build.specs.Steps.{trieBytes, Opened}
+use Rattle.trie_sets.proofs.Sharing.{keyAt, Dimension, keys-all, all-keys, keysOf-suc, prefix-get, bound-shared, region-get}
+use Rattle.trie_sets.proofs.Splitting.{value-dimension, path-dimension, path-short}
+use Rattle.trie_sets.proofs.Slotted.{slots-part}
 use Rattle.trie_build.proofs.Noding.{leafBody, innerBody, leaf-node, inner-node}
 
 -- keys of slots have two strings, and so has what they share

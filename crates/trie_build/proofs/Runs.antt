@@ -2,13 +2,13 @@
 use mathlib.Core.Path.{_≡_, refl, sym, ap, _∙_}
 use mathlib.Core.Bool.{Bool, true, false}
 use Prim.Native.Nat.{ℕ, zero, suc, _+_, _*_, _-_, _≤_, _<_}
-use mathlib.Core.List.{List, [], _∷_, _++_, map}
+use mathlib.Core.List.{List, [], _∷_, _++_}
 use native.Mathlib.Omega.{arith}
 use lib.ListN.{length, getD, take, drop, length-append}
 use lib.Seq.{drop-drop, take-at, drop-at, getD-take}
 use lib.Dec.{ltb}
 use borrow.Author.Tests.{ltb-true, ltb-false}
-use Rattle.buffer.specs.Lists.{All, nil, cons, flat}
+use Rattle.buffer.specs.Lists.{flat}
 use Rattle.buffer.proofs.Lists.{all-imp, all-head}
 use Rattle.rows.specs.Records.{records}
 use Rattle.buffer.specs.Splice.{region}
@@ -19,11 +19,11 @@ use Rattle.trie_theory.specs.Strings.{at}
 use Rattle.trie_theory.specs.Position.{shared, byte}
 use Rattle.trie_theory.proofs.Prefix.{Prefixes, From}
 use Rattle.trie_theory.proofs.Parts.{Partition, done, part, part-from}
-use Rattle.trie_build.specs.Sets.{keysOf}
-use Rattle.trie_build.specs.Positions.{slotByte}
-use Rattle.trie_build.specs.Build.{columnOf, Run}
-use Rattle.trie_build.proofs.Sets.{slot-zero}
-use Rattle.trie_build.proofs.Sharing.{keyAt, keys-all, keysOf-suc, length-keysOf, region-get}
+use Rattle.trie_sets.specs.Sets.{keysOf}
+use Rattle.trie_sets.specs.Positions.{slotByte}
+use Rattle.trie_build.specs.Steps.{Run}
+use Rattle.trie_sets.proofs.Sets.{slot-zero}
+use Rattle.trie_sets.proofs.Sharing.{keyAt, keys-all, keysOf-suc, length-keysOf, region-get}
 use Rattle.trie_build.proofs.Columns.{column, slot-first}
 
 -- ---- the first keys of slots, and the others

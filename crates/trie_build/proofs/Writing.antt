@@ -1,23 +1,20 @@
 -- The bytes of suffixes of slots, and moves of them side by side. Assumes nothing.
-use mathlib.Core.Path.{_≡_, refl, sym, ap, ap₂, _∙_}
-use Prim.Native.Nat.{ℕ, zero, suc, _+_, _*_, _-_, _≤_, _<_}
-use mathlib.Core.List.{List, [], _∷_, _++_, append-assoc, append-nil, map}
+use mathlib.Core.Path.{_≡_, sym, ap, _∙_}
+use Prim.Native.Nat.{ℕ, _+_, _-_, _≤_}
+use mathlib.Core.List.{List, [], _∷_, _++_, append-assoc, append-nil}
 use native.Mathlib.Omega.{arith}
-use native.Mathlib.Nat.{add-assoc}
-use lib.ListN.{length, getD, take, drop, length-append, length-drop, length-take}
+use lib.ListN.{length, getD, drop, length-append}
 use lib.Seq.{drop-drop, take-take}
 use Rattle.buffer.specs.Lists.{flat}
 use Rattle.buffer.specs.Splice.{splice, region}
-use Rattle.buffer.proofs.Splice.{splice-then, region-after, length-region, length-splice}
-use Rattle.matcher.specs.Bytes.{pathLimit}
+use Rattle.buffer.proofs.Splice.{splice-then, region-after, length-region}
 use Rattle.rows.specs.Sizes.{valueSize, referenceSize, referenceAt, lengthAt, pathAt}
 use Rattle.entries.specs.Slots.{slotSize, slotKey}
 use Rattle.trie_theory.specs.Strings.{at}
 use Rattle.trie_theory.specs.Encode.{suffixBytes}
-use Rattle.trie_read.specs.Shape.{keyOf}
 use Rattle.trie_build.specs.Nodes.{rest, Behind}
-use Rattle.trie_build.proofs.Sharing.{region-get}
-use Rattle.trie_build.proofs.Slotted.{drop-take}
+use Rattle.trie_sets.proofs.Sharing.{region-get}
+use Rattle.trie_sets.proofs.Slotted.{drop-take}
 
 -- a stretch of a stretch
 pub region-region : (s : List ℕ) (a m b n : ℕ) → b + n ≤ m → region (region s a m) b n ≡ region s (a + b) n

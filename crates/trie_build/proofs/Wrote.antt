@@ -1,20 +1,20 @@
 -- The loop that writes the suffixes of a leaf front to back: some are written, the others are still to come. Assumes nothing.
 use mathlib.Core.Path.{_≡_, refl, sym, ap, _∙_}
-use Prim.Native.Nat.{ℕ, zero, suc, _+_, _*_, _-_, _≤_, _<_}
-use mathlib.Core.List.{List, [], _∷_, _++_, append-assoc, append-nil, map}
+use Prim.Native.Nat.{ℕ, suc, _+_, _*_, _-_, _≤_, _<_}
+use mathlib.Core.List.{List, [], _∷_, _++_, append-assoc, append-nil}
 use native.Mathlib.Omega.{arith}
 use native.Mathlib.Nat.{sub-self}
-use lib.ListN.{length, getD, take, drop, length-append}
+use lib.ListN.{length, getD, drop, length-append}
 use lib.Seq.{drop-drop}
 use Rattle.buffer.specs.Lists.{flat}
 use Rattle.buffer.specs.Splice.{splice, region}
-use Rattle.buffer.proofs.Splice.{splice-nil, splice-next, length-splice, getD-after}
+use Rattle.buffer.proofs.Splice.{splice-nil, splice-next, getD-after}
 use Rattle.rows.specs.Records.{records}
 use Rattle.rows.specs.Sizes.{lengthAt}
 use Rattle.rows.proofs.Records.{records-suc}
 use Rattle.entries.specs.Slots.{slotSize}
 use Rattle.trie_theory.specs.Encode.{suffixBytes}
-use Rattle.trie_build.specs.Partition.{slotsAt}
+use Rattle.trie_sets.specs.Partition.{slotsAt}
 use Rattle.trie_build.specs.Nodes.{rest, restsBytes, Behind}
 use Rattle.trie_build.proofs.Writing.{behind}
 

@@ -1,5 +1,3 @@
-pub mod Sets
-pub mod Positions
-pub mod Partition
-pub mod Nodes
 pub mod Build
+pub mod Nodes
+pub mod Steps

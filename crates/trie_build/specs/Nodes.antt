@@ -1,12 +1,11 @@
 -- The bytes of a node as the builder writes them. Assumes nothing: these are definitions.
 use Prim.Native.Nat.{ℕ, _+_, _≤_}
-use mathlib.Core.List.{List, [], _∷_, map}
-use lib.ListN.{length, getD, drop}
+use mathlib.Core.List.{List, _∷_, map}
+use lib.ListN.{getD, drop}
 use Rattle.buffer.specs.Lists.{flat}
-use Rattle.buffer.specs.Splice.{region}
 use Rattle.buffer.specs.Numbers.{bytesOf}
 use Rattle.matcher.specs.Bytes.{pathLimit}
-use Rattle.rows.specs.Sizes.{valueSize, referenceSize, referenceAt, lengthAt, pathAt}
+use Rattle.rows.specs.Sizes.{valueSize, lengthAt}
 use Rattle.trie_theory.specs.Forest.{Key}
 use Rattle.trie_theory.specs.Strings.{at}
 use Rattle.trie_theory.specs.Encode.{suffixBytes}

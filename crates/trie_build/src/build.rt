@@ -2,11 +2,11 @@
 use crate::nodes::put_head;
 use crate::nodes::put_strings;
 use crate::nodes::put_suffixes;
-use crate::partition::partition;
-use crate::positions::Shape;
-use crate::positions::split;
 use entries::SLOT_SIZE;
 use rows::sizes::PATH_AT;
+use trie_sets::partition::partition;
+use trie_sets::positions::Shape;
+use trie_sets::positions::split;
 ghost use mathlib.Core.Path.{_≡_};
 ghost use mathlib.Core.Bool.{true};
 ghost use Prim.Native.Nat.{_+_, _*_, _^_, _≤_, _<_};
@@ -16,8 +16,9 @@ ghost use Rattle.trie_theory.specs.Strings.{at};
 ghost use Rattle.trie_theory.specs.Position.{shared};
 ghost use Rattle.trie_theory.specs.Level.{levelOf};
 ghost use Rattle.trie_theory.specs.Encode.{encode};
-ghost use Rattle.trie_build.specs.Sets.{keysOf, shortPaths};
-ghost use Rattle.trie_build.specs.Build.{entryRoom, Built, Ready, trieBytes, columnOf, Run, Opened};
+ghost use Rattle.trie_sets.specs.Sets.{keysOf, shortPaths};
+ghost use Rattle.trie_build.specs.Build.{entryRoom, Built};
+ghost use Rattle.trie_build.specs.Steps.{Ready, trieBytes, columnOf, Run, Opened};
 
 // How many of the first slots have the first one's byte in a column.
 fn run(slots: &[u8], n: usize, column: usize) -> usize

@@ -1,5 +1,4 @@
 // The bytes of a node, written from slots that stand behind it in the same slice: its head, its strings, the suffixes of a leaf.
-use crate::positions::wide;
 use buffer::moves::move_within;
 use buffer::numbers::put32;
 use entries::SLOT_SIZE;
@@ -8,6 +7,7 @@ use rows::sizes::PATH_AT;
 use rows::sizes::REFERENCE_AT;
 use rows::sizes::REFERENCE_SIZE;
 use rows::sizes::VALUE_SIZE;
+use trie_sets::positions::wide;
 ghost use mathlib.Core.Path.{_≡_};
 ghost use mathlib.Core.Bool.{true};
 ghost use Prim.Native.Nat.{ℕ, _+_, _-_, _*_, _^_, _≤_, _<_};
@@ -20,7 +20,7 @@ ghost use Rattle.matcher.specs.Bytes.{pathLimit};
 ghost use Rattle.rows.specs.Sizes.{valueSize, lengthAt, pathAt};
 ghost use Rattle.entries.specs.Slots.{slotSize};
 ghost use Rattle.trie_theory.specs.Encode.{suffixBytes};
-ghost use Rattle.trie_build.specs.Partition.{slotsAt};
+ghost use Rattle.trie_sets.specs.Partition.{slotsAt};
 ghost use Rattle.trie_build.specs.Nodes.{headBytes, rest, restsBytes, Behind};
 
 // The bytes of a node before its strings.

@@ -1,15 +1,10 @@
 // Builds the level of each set of rows from standard input and prints its bytes in hex. A set: tau, the number of its rows (at most 32), its
 // rows in row sequence. The sets and what they print come from tools/oracle/trie_build.py.
 use entries::SLOT_SIZE;
-use matcher::bytes::PATH_LIMIT;
-use rows::sizes::LENGTH_AT;
 use rows::sizes::ROW_SIZE;
 ghost use mathlib.Core.Path.{_≡_};
-ghost use mathlib.Core.Bool.{true};
-ghost use Prim.Native.Nat.{_*_, _≤_, _<_};
+ghost use Prim.Native.Nat.{_≤_, _<_};
 ghost use lib.ListN.{length};
-ghost use Rattle.entries.specs.Slots.{slotSize};
-ghost use Rattle.trie_build.specs.Sets.{shortPaths};
 
 const NEWLINE: [u8; 1] = [10];
 
@@ -21,24 +16,9 @@ const SCRATCH: usize = 16384;
 const MEMORY: usize = 24576;
 
 fn wide(b: u8) -> usize
-    ensures { λ r. ⌜ (r ≡ b) × (r < 256) ⌝ }
+    ensures { λ r. ⌜ r < 256 ⌝ }
 {
     b as usize
-}
-
-// Is no path in the slots too long?
-fn short(slots: &[u8], n: usize) -> bool
-    requires { ⌜ n * slotSize ≤ length (now slots) ⌝ }
-    ensures { λ r. ⌜ (r ≡ true → shortPaths n (now (slots .entry)) ≡ true) ⌝ }
-{
-    let mut k: usize = 0;
-    while k < n {
-        if wide(slots[k * SLOT_SIZE + LENGTH_AT]) > PATH_LIMIT {
-            return false;
-        }
-        k += 1;
-    }
-    true
 }
 
 fn lay(s: &mut [u8], k: usize, row: &[u8])
@@ -63,7 +43,7 @@ fn print(s: &[u8], n: usize) {
 fn level(s: &mut [u8], n: usize, tau: usize)
     requires { ⌜ (length (now s) ≡ 24576) × (n ≤ 32) ⌝ }
 {
-    if short(&s[SLOTS..SCRATCH], n) {
+    if trie_sets::positions::paths_are_short(&s[SLOTS..SCRATCH], n) {
         let size = trie_build::build::build_level(s, 0, SLOTS, SCRATCH, n, tau);
         print(s, size);
     } else {

@@ -1,7 +1,7 @@
 -- Short paths are what the builder asks for. Assumes nothing.
 use borrow.Author.Needs.{needs}
 use native.Mathlib.Omega.{arith}
-use mathlib.Core.Path.{_≡_, sym, _∙_}
+use mathlib.Core.Path.{sym, _∙_}
 use lib.ListN.{drop}
 use Rattle.trie_build.proofs.Opening.{short-part}
 use Rattle.trie_build_vectors.proofs.level.Statement.{statement}
@@ -11,7 +11,7 @@ build-level-requires : tie.Need-build-level-requires
 build-level-requires c κs =
     let a = c .before .before .before .before .before .before .args in
     let p = short-part (a .n) 8192 (drop 8192 (a .s .now)) (omega arith) in
-    (sym p ∙ c .before .before .short .ensures (c .before .if1 .taken), omega arith, omega arith, omega arith, omega arith)
+    (sym p ∙ sym (c .before .before .paths-are-short .ensures) ∙ c .before .if1 .taken, omega arith, omega arith, omega arith, omega arith)
 
 pub level-spec : {M : Type 1} → statement M
 level-spec =

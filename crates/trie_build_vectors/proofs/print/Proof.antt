@@ -1,6 +1,5 @@
 -- Byte by byte. Assumes nothing.
 use borrow.Author.Needs.{needs}
-use native.Mathlib.Omega.{arith}
 use Prim.Native.Nat.{_≤_, _-_}
 use Rattle.trie_build_vectors.proofs.print.Statement.{statement}
 use Rattle.trie_build_vectors.proofs.print.Tie as tie

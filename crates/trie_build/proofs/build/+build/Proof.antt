@@ -2,19 +2,19 @@
 use borrow.Author.Needs.{needs}
 use native.Mathlib.Omega.{arith}
 use Prim.Native.Nat.{ℕ, _+_, _*_, _-_, _^_, _≤_, _<_}
-use mathlib.Core.Path.{_≡_, refl, sym, ap, _∙_}
+use mathlib.Core.Path.{_≡_, _∙_}
 use mathlib.Core.List.{List}
 use lib.ListN.{length, drop}
 use borrow.Fn.Kinds.{In}
 use borrow.Fn.PlainCycle.{Measures, is, falls, and}
 use Rattle.entries.specs.Slots.{slotSize}
-use Rattle.trie_theory.specs.Forest.{Strings, Key}
+use Rattle.trie_theory.specs.Forest.{Key}
 use Rattle.trie_theory.proofs.Fall.{undecided}
-use Rattle.trie_build.specs.Sets.{keysOf}
+use Rattle.trie_sets.specs.Sets.{keysOf}
 use Rattle.trie_theory.specs.Position.{shared}
 use Rattle.trie_theory.specs.Parts.{parts}
-use Rattle.trie_build.specs.Partition.{Parted}
-use Rattle.trie_build.specs.Build.{Ready, Opened, columnOf, Run}
+use Rattle.trie_sets.specs.Partition.{Parted}
+use Rattle.trie_build.specs.Steps.{Ready, Opened, columnOf, Run}
 use Rattle.trie_build.proofs.Going.{Going}
 use Rattle.trie_build.proofs.Runs.{run-whole}
 use Rattle.trie_build.proofs.Building as law
@@ -26,7 +26,7 @@ use Rattle.trie_build.proofs.build.open_node.Reads as open-node-reads
 use Rattle.trie_build.proofs.build.run.Reads as run-reads
 use Rattle.trie_build.proofs.nodes.put_head.Reads as put-head-reads
 use Rattle.trie_build.proofs.nodes.put_suffixes.Reads as put-suffixes-reads
-use Rattle.trie_build.proofs.partition.partition.Reads as partition-reads
+use Rattle.trie_sets.proofs.partition.partition.Reads as partition-reads
 use Rattle.trie_build.proofs.build.+build.{statement}
 use Rattle.trie_build.proofs.build.+build.Tie.{close}
 

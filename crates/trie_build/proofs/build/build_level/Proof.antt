@@ -1,8 +1,6 @@
 -- The builder at the root. Assumes nothing.
 use borrow.Author.Needs.{needs}
 use native.Mathlib.Omega.{arith}
-use Prim.Native.Nat.{ℕ, _+_, _*_, _-_, _≤_, _<_}
-use mathlib.Core.Path.{_≡_, refl, sym, ap, _∙_}
 use Rattle.trie_build.proofs.Level.{root-is, level-ready, level-none}
 use Rattle.trie_build.proofs.build.build_level.Statement.{statement}
 use Rattle.trie_build.proofs.build.build_level.Tie as tie

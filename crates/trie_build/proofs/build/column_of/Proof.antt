@@ -4,7 +4,7 @@ use native.Mathlib.Omega.{arith}
 use mathlib.Core.Path.{_≡_, refl}
 use Prim.Native.Nat.{ℕ, zero, suc, _+_, _≤_, _<_}
 use Rattle.rows.specs.Sizes.{pathAt}
-use Rattle.trie_build.specs.Build.{columnOf}
+use Rattle.trie_build.specs.Steps.{columnOf}
 use Rattle.trie_build.proofs.build.column_of.Statement.{statement}
 use Rattle.trie_build.proofs.build.column_of.Tie as tie
 

@@ -1,18 +1,18 @@
 -- The split of the set, and its strings written. Assumes nothing.
 use borrow.Author.Needs.{needs}
 use native.Mathlib.Omega.{arith}
-use Prim.Native.Nat.{ℕ, _+_, _*_, _-_, _≤_, _<_}
-use mathlib.Core.Path.{_≡_, refl, sym, ap, _∙_}
-use lib.ListN.{length, drop}
+use Prim.Native.Nat.{ℕ, _+_, _*_, _-_}
+use mathlib.Core.Path.{_∙_}
+use lib.ListN.{drop}
 use Rattle.entries.specs.Slots.{slotSize}
-use Rattle.trie_build.specs.Sets.{keysOf}
-use Rattle.trie_build.specs.Positions.{Split}
+use Rattle.trie_sets.specs.Sets.{keysOf}
+use Rattle.trie_sets.specs.Positions.{Split}
 use Rattle.trie_build.proofs.Opening.{shared-two, value-most, path-most, trie-room, keys-part, short-part, opened}
 use Rattle.trie_build.proofs.build.open_node.Statement.{statement}
 use Rattle.trie_build.proofs.build.open_node.Tie as tie
 use Rattle.trie_build.proofs.build.open_node.Reads as reads
 use Rattle.trie_build.proofs.build.open_node.Lts as lts
-use Rattle.trie_build.proofs.positions.split.Reads as split-reads
+use Rattle.trie_sets.proofs.positions.split.Reads as split-reads
 use Rattle.trie_build.proofs.nodes.put_strings.Reads as put-strings-reads
 
 abbrev calls : lts.Claims

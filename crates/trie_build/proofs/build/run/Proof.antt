@@ -2,12 +2,10 @@
 use borrow.Author.Needs.{needs}
 use borrow.Author.Count.{below-more}
 use native.Mathlib.Omega.{arith}
-use Prim.Native.Nat.{ℕ, _+_, _*_, _-_, _≤_, _<_}
-use mathlib.Core.Path.{_≡_, refl, sym, ap, _∙_}
-use lib.ListN.{length, getD}
-use Rattle.trie_build.specs.Positions.{slotByte}
-use Rattle.trie_build.specs.Build.{Run}
-use Rattle.trie_build.proofs.Sets.{slot-zero}
+use Prim.Native.Nat.{ℕ, _-_, _≤_, _<_}
+use mathlib.Core.Path.{_≡_}
+use Rattle.trie_sets.specs.Positions.{slotByte}
+use Rattle.trie_sets.proofs.Sets.{slot-zero}
 use Rattle.trie_build.proofs.build.run.Statement.{statement}
 use Rattle.trie_build.proofs.build.run.Tie as tie
 

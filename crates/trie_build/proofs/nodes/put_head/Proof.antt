@@ -1,12 +1,9 @@
 -- Four writes side by side are one splice. Assumes nothing.
 use borrow.Author.Needs.{needs}
 use native.Mathlib.Omega.{arith}
-use Prim.Native.Nat.{_+_}
-use mathlib.Core.Path.{_≡_, sym, ap, _∙_}
-use mathlib.Core.List.{[], _∷_, _++_}
-use lib.ListN.{length, length-set}
-use Rattle.buffer.specs.Splice.{splice}
-use Rattle.buffer.specs.Numbers.{bytesOf}
+use mathlib.Core.Path.{_∙_}
+use mathlib.Core.List.{[], _∷_}
+use lib.ListN.{length-set}
 use Rattle.buffer.proofs.Splice.{splice-then}
 use Rattle.buffer.proofs.Turns.{set-3}
 use Rattle.trie_build.proofs.nodes.put_head.Statement.{statement}

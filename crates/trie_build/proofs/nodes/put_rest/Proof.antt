@@ -1,9 +1,9 @@
 -- Five writes side by side are one splice. Assumes nothing.
 use borrow.Author.Needs.{needs}
 use native.Mathlib.Omega.{arith}
-use Prim.Native.Nat.{ℕ, _+_, _-_, _≤_}
-use mathlib.Core.Path.{_≡_, sym, ap, _∙_}
-use lib.ListN.{length, getD, length-set}
+use Prim.Native.Nat.{_+_, _-_, _≤_}
+use mathlib.Core.Path.{_∙_}
+use lib.ListN.{getD, length-set}
 use Rattle.buffer.proofs.Turns.{set-2}
 use Rattle.rows.specs.Sizes.{valueSize, lengthAt}
 use Rattle.trie_build.proofs.Writing.{length-rest, rest-room, rest-put}
@@ -12,7 +12,7 @@ use Rattle.trie_build.proofs.nodes.put_rest.Tie as tie
 use Rattle.trie_build.proofs.nodes.put_rest.Reads as reads
 use Rattle.trie_build.proofs.nodes.put_rest.Lts as lts
 use Rattle.buffer.proofs.moves.move_within.Reads as move-within-reads
-use Rattle.trie_build.proofs.positions.wide.Reads as wide-reads
+use Rattle.trie_sets.proofs.positions.wide.Reads as wide-reads
 
 abbrev calls : lts.Claims
 calls = (wide-reads.Asked, wide-reads.Learnt, move-within-reads.Asked, move-within-reads.Learnt)

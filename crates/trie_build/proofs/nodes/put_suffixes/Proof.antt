@@ -1,9 +1,8 @@
 -- Suffix by suffix (`Suffixed`). Assumes nothing.
 use borrow.Author.Needs.{needs}
 use native.Mathlib.Omega.{arith}
-use Prim.Native.Nat.{ℕ, _+_, _*_, _-_, _≤_, _<_}
-use mathlib.Core.Path.{_≡_, refl, sym, ap, _∙_}
-use lib.ListN.{length}
+use Prim.Native.Nat.{_-_, _≤_}
+use mathlib.Core.Path.{_≡_}
 use Rattle.trie_build.proofs.Wrote.{Suffixed, suffixed-none, suffixed-all, suffix-room, suffix-behind, suffixed-more}
 use Rattle.trie_build.proofs.nodes.put_suffixes.Statement.{statement}
 use Rattle.trie_build.proofs.nodes.put_suffixes.Tie as tie
