@@ -24,7 +24,7 @@ ghost use Rattle.trie_sets.specs.Partition.{slotsAt};
 ghost use Rattle.trie_build.specs.Nodes.{headBytes, rest, restsBytes, Behind};
 
 // The bytes of a node before its strings.
-pub fn put_head(s: &mut [u8], at: usize, kind: usize, value: usize, path: usize, size: usize)
+pub(crate) fn put_head(s: &mut [u8], at: usize, kind: usize, value: usize, path: usize, size: usize)
     requires { ⌜ (at + 7 ≤ length (now s)) × (kind < 256) × (value < 256) × (path < 256) × (size < 2 ^ 32) ⌝ }
     ensures { λ _. ⌜ now (s .exit) ≡ splice (now (s .entry)) at (headBytes kind value path size) ⌝ }
 {
@@ -35,7 +35,7 @@ pub fn put_head(s: &mut [u8], at: usize, kind: usize, value: usize, path: usize,
 }
 
 // The strings of a node: the bytes of a slot from the positions above up to its own.
-pub fn put_strings(
+pub(crate) fn put_strings(
     s: &mut [u8],
     at: usize,
     slot: usize,
@@ -68,7 +68,7 @@ fn put_rest(s: &mut [u8], at: usize, slot: usize, value: usize, path: usize) -> 
 }
 
 // The suffixes of a leaf, in the sequence of their slots. Returns where they end.
-pub fn put_suffixes(
+pub(crate) fn put_suffixes(
     s: &mut [u8],
     at: usize,
     slots: usize,
