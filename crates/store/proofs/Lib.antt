@@ -1,0 +1,3 @@
+pub mod Powers
+pub mod Fresh
+pub mod Numbers

@@ -1,0 +1,3 @@
+// The store in lent memory: its front, and setting it up.
+pub mod front;
+pub mod setup;
