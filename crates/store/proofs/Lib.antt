@@ -1,3 +1,4 @@
 pub mod Powers
 pub mod Fresh
 pub mod Numbers
+pub mod Opening

@@ -1,8 +1,11 @@
 // The numbers at the beginning of a store, and what they say of it.
 ghost use mathlib.Core.Path.{_≡_};
 ghost use mathlib.Core.Bool.{true};
-ghost use Prim.Native.Nat.{_+_, _*_, _^_, _≤_};
+ghost use Prim.Native.Nat.{_+_, _*_, _^_, _≤_, _<_};
+ghost use lib.ListN.{length};
 ghost use Rattle.book.specs.Front.{inLimits, need};
+ghost use Rattle.store.specs.Opening.{Reads, OpenedAs};
+use buffer::numbers::get32;
 
 // Document 01's limits of M, L and τ.
 pub const M_LIMIT: u64 = 4096;
@@ -10,6 +13,9 @@ pub const M_LIMIT: u64 = 4096;
 pub const L_LIMIT: u64 = 8;
 
 pub const TAU_LIMIT: u64 = 100;
+
+// The four numbers of the front.
+pub const FRONT_SIZE: usize = 16;
 
 // Bytes kept for the front, and for each entry that a level can hold.
 pub const FRONT_ROOM: usize = 4096;
@@ -57,4 +63,57 @@ pub fn needed(m: usize, l: usize) -> usize
     ensures { λ r. ⌜ r ≡ need m l ⌝ }
 {
     ENTRY_ROOM * m * power(l) + FRONT_ROOM
+}
+
+// M, L, τ and the held number.
+pub struct Front {
+    pub m: usize,
+    pub l: usize,
+    pub tau: usize,
+    pub held: usize,
+}
+
+// `Missing`: no store stands in the memory lent, number 4.
+pub enum Opened {
+    Store(Front),
+    Missing,
+}
+
+fn wide(x: u32) -> usize
+    ensures { λ r. ⌜ (r ≡ x) × (r < 4294967296) ⌝ }
+{
+    x as usize
+}
+
+// Reads the four numbers.
+fn read_front(store: &[u8]) -> Front
+    requires { ⌜ 16 ≤ length (now store) ⌝ }
+    ensures { λ r. ⌜ Reads (now (store .entry)) r ⌝ }
+{
+    Front {
+        m: wide(get32(store, 0)),
+        l: wide(get32(store, 4)),
+        tau: wide(get32(store, 8)),
+        held: wide(get32(store, 12)),
+    }
+}
+
+// Reads the front and tests it: its numbers, and whether all the bytes needed are lent.
+pub fn open(store: &[u8]) -> Opened
+    ensures { λ r. ⌜ OpenedAs (now (store .entry)) r ⌝ }
+{
+    if store.len() < FRONT_SIZE {
+        return Opened::Missing;
+    }
+    let f = read_front(store);
+    let m = f.m;
+    let l = f.l;
+    if in_limits(m as u64, l as u64, f.tau as u64) {
+        if needed(m, l) <= store.len() {
+            if f.held < m * power(l) {
+                return Opened::Store(f);
+            }
+        }
+    }
+    Opened::Missing
 }
