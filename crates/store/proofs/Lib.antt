@@ -2,3 +2,4 @@ pub mod Powers
 pub mod Fresh
 pub mod Numbers
 pub mod Opening
+pub mod Ends

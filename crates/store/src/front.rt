@@ -22,7 +22,7 @@ pub const FRONT_ROOM: usize = 4096;
 
 pub const ENTRY_ROOM: usize = 1024;
 
-pub fn in_limits(m: u64, l: u64, tau: u64) -> bool
+pub(crate) fn in_limits(m: u64, l: u64, tau: u64) -> bool
     ensures { λ r. ⌜ r ≡ inLimits m l tau ⌝ }
 {
     if m < 1 {
@@ -44,7 +44,7 @@ pub fn in_limits(m: u64, l: u64, tau: u64) -> bool
 }
 
 // 2 to the power of l.
-pub fn power(l: usize) -> usize
+pub(crate) fn power(l: usize) -> usize
     requires { ⌜ l ≤ 8 ⌝ }
     ensures { λ r. ⌜ (r ≡ 2 ^ l) × (r ≤ 256) ⌝ }
 {
@@ -58,7 +58,7 @@ pub fn power(l: usize) -> usize
 }
 
 // The bytes that a store needs.
-pub fn needed(m: usize, l: usize) -> usize
+pub(crate) fn needed(m: usize, l: usize) -> usize
     requires { ⌜ (m ≤ 4096) × (l ≤ 8) ⌝ }
     ensures { λ r. ⌜ r ≡ need m l ⌝ }
 {
@@ -79,7 +79,7 @@ pub enum Opened {
     Missing,
 }
 
-fn wide(x: u32) -> usize
+pub(crate) fn wide(x: u32) -> usize
     ensures { λ r. ⌜ (r ≡ x) × (r < 4294967296) ⌝ }
 {
     x as usize
