@@ -1,0 +1,30 @@
+// One line of a field log: read, carried out, and what is printed for it written into `out`.
+use crate::print::print_reply;
+use store::reply::Reply;
+ghost use mathlib.Core.Path.{_≡_};
+ghost use lib.ListN.{length};
+ghost use Rattle.logline.specs.Meaning.{setup, misread};
+ghost use Rattle.session.specs.Sizes.{storeSize, printLimit};
+ghost use Rattle.session.specs.Keeps.{Ran};
+
+// `M,L,τ`
+fn run_setup(store: &mut [u8], m: u64, l: u64, tau: u64, out: &mut [u8]) -> usize
+    requires { ⌜ (length (now store) ≡ storeSize) × (length (now out) ≡ printLimit) ⌝ }
+    ensures { λ r. ⌜ Ran (setup m l tau) (now (store .entry)) (now (store .exit)) (now (out .entry)) (now (out .exit)) r ⌝ }
+{
+    let reply = nivruska::setup(store, m, l, tau);
+    print_reply(reply, out, 0)
+}
+
+// Number 12.
+fn run_misread(store: &mut [u8], out: &mut [u8]) -> usize
+    requires { ⌜ length (now out) ≡ printLimit ⌝ }
+    ensures { λ r. ⌜ Ran misread (now (store .entry)) (now (store .exit)) (now (out .entry)) (now (out .exit)) r ⌝ }
+{
+    let reply = Reply {
+        number: 12,
+        first: 0,
+        second: 0,
+    };
+    print_reply(reply, out, 0)
+}
