@@ -48,7 +48,7 @@ unfolding small
 small-formed m es a = all-drop formed (m * rounds m es) es a
 
 -- a level has no more entries than its region has kilobytes
-level-few : (m i : ℕ) (es : List Entry) → length (level m i es) ≤ m * 2 ^ i
+pub level-few : (m i : ℕ) (es : List Entry) → length (level m i es) ≤ m * 2 ^ i
 unfolding digit
 level-few m i es =
     let d : digit i (rounds m es) ≤ 1 = omega arith in

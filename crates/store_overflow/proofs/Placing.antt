@@ -1,9 +1,12 @@
 -- The writes that make a slot, and a write over others. Assumes nothing.
 use Prim.Native.Nat.{ℕ, _+_, _-_, _≤_}
 use mathlib.Core.Path.{_≡_, refl, sym, ap, _∙_}
+use mathlib.Core.Bool.{true}
 use mathlib.Core.List.{List, [], _∷_, _++_, append-assoc}
 use native.Mathlib.Omega.{arith}
-use lib.ListN.{length, set, replicate, length-append, length-replicate, replicate-append-replicate}
+use lib.ListN.{length, getD, set, replicate, length-append, length-replicate, replicate-append-replicate}
+use lib.Seq.{getD-at}
+use borrow.Author.Tests.{le-leb}
 use Rattle.buffer.specs.Splice.{splice}
 use Rattle.buffer.specs.Numbers.{bytesOf}
 use Rattle.buffer.proofs.Splice.{splice-is, splice-then, splice-snoc, take-before, drop-after}
@@ -11,7 +14,7 @@ use Rattle.buffer.proofs.Digits.{length-bytesOf}
 use Rattle.matcher.specs.Bytes.{pathLimit}
 use Rattle.rows.specs.Sizes.{valueSize, referenceSize, referenceAt, lengthAt, pathAt, rowSize}
 use Rattle.rows.specs.Entry.{Entry, row}
-use Rattle.entries.specs.Slots.{slotSize, slot}
+use Rattle.entries.specs.Slots.{slotSize, slot, shortPath}
 
 -- what is written over leaves nothing
 pub splice-under : (s : List ℕ) (p : ℕ) (b : List ℕ) (o : ℕ) (a : List ℕ) → o ≤ p → p + length b ≤ o + length a → o + length a ≤ length s
@@ -45,6 +48,15 @@ module _ (e : Entry) (short : length (e .path) ≤ pathLimit) (twenty : length (
   length-put =
       ap length (sym slot-is)
       ∙ omega (arith, length-append (lead ++ e .path) zeros, length-append lead (e .path), length-lead, length-replicate {A = ℕ} (slotSize - pathAt - length (e .path)) 0)
+
+  pub put-short : shortPath (slot e) ≡ true
+  unfolding shortPath
+  put-short =
+      let front = value ++ e .reference in
+      let l : length front ≡ lengthAt = omega (arith, length-append value (e .reference), length-bytesOf valueSize (e .value)) in
+      let f : (lead ++ e .path) ++ zeros ≡ front ++ (length (e .path) ∷ (e .path ++ zeros)) = simp append-assoc in
+      let n : getD (slot e) lengthAt 0 ≡ length (e .path) = ap (λ (r : List ℕ). getD r lengthAt 0) (sym slot-is ∙ f) ∙ getD-at front (length (e .path)) (e .path ++ zeros) 0 lengthAt l in
+      rw n (le-leb (length (e .path)) pathLimit short)
 
   -- five writes, one behind the other
   pub slot-put : (s : List ℕ) (at : ℕ) → at + slotSize ≤ length s
