@@ -27,7 +27,7 @@ use Rattle.gather.proofs.Filling.{length-slot, short-slot, entry-has, e
 use Rattle.gather.proofs.Putting.{length-put, all-even, joined-none}
 use Rattle.gather.proofs.Splitting.{keys-root}
 
-all-take : {A : Type 0} (t : A → Bool) (n : ℕ) (xs : List A) → all t xs ≡ true → all t (take n xs) ≡ true
+pub all-take : {A : Type 0} (t : A → Bool) (n : ℕ) (xs : List A) → all t xs ≡ true → all t (take n xs) ≡ true
 all-take t zero xs h = refl
 all-take t (suc n) [] h = refl
 all-take t (suc n) (x ∷ xs) h = and-both (and-left (t x) (all t xs) h) (all-take t n xs (and-right (t x) (all t xs) h))
