@@ -3,3 +3,4 @@ pub mod Fresh
 pub mod Numbers
 pub mod Opening
 pub mod Ends
+pub mod Places

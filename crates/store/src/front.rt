@@ -44,7 +44,7 @@ pub(crate) fn in_limits(m: u64, l: u64, tau: u64) -> bool
 }
 
 // 2 to the power of l.
-pub(crate) fn power(l: usize) -> usize
+pub fn power(l: usize) -> usize
     requires { ⌜ l ≤ 8 ⌝ }
     ensures { λ r. ⌜ (r ≡ 2 ^ l) × (r ≤ 256) ⌝ }
 {
@@ -58,7 +58,7 @@ pub(crate) fn power(l: usize) -> usize
 }
 
 // The bytes that a store needs.
-pub(crate) fn needed(m: usize, l: usize) -> usize
+pub fn needed(m: usize, l: usize) -> usize
     requires { ⌜ (m ≤ 4096) × (l ≤ 8) ⌝ }
     ensures { λ r. ⌜ r ≡ need m l ⌝ }
 {

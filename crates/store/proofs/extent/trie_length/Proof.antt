@@ -1,10 +1,10 @@
 -- The root's end, as its head has it. Assumes nothing.
 use borrow.Author.Needs.{needs}
 use native.Mathlib.Omega.{arith}
-use mathlib.Core.Path.{_≡_, ap, _∙_}
+use mathlib.Core.Path.{_≡_, refl, sym, ap, _∙_}
 use Prim.Native.Nat.{_+_}
 use lib.ListN.{length}
-use Rattle.store.proofs.Ends.{ends, trie-ends, trie-inside}
+use Rattle.store.proofs.Ends.{bodyAt, ends, no-root, has-root}
 use Rattle.store.proofs.extent.trie_length.Statement.{statement}
 use Rattle.store.proofs.extent.trie_length.Tie as tie
 use Rattle.store.proofs.extent.trie_length.Reads as reads
@@ -14,28 +14,37 @@ use Rattle.store.proofs.front.wide.Reads as front-wide-reads
 use Rattle.trie_read.proofs.head.wide.Reads as head-wide-reads
 
 abbrev calls : lts.Claims
-calls = (head-wide-reads.Asked, head-wide-reads.Learnt, get32-reads.Asked, get32-reads.Learnt, front-wide-reads.Asked, front-wide-reads.Learnt)
+calls = (get32-reads.Asked, get32-reads.Learnt, front-wide-reads.Asked, front-wide-reads.Learnt, head-wide-reads.Asked, head-wide-reads.Learnt)
+
+-- what is read is the root's
+pub record Read (c : lts.After-wide3 calls reads.Pre reads.Post) : Type 0 where
+  pub end : 7 + c .before .before .wide2 .result + c .wide3 .result + c .before .before .before .before .before .wide .result ≡ ends (c .before .before .before .before .before .before .before .before .before .args .t .now)
+  pub body : c .before .before .before .before .before .wide .result ≡ bodyAt (c .before .before .before .before .before .before .before .before .before .args .t .now)
 
 returns : tie.Need-returns
-returns c = (omega arith, λ f rest s w n e. let i = trie-inside _ f rest w n e in absurd (omega (arith, i .0, c .if1 .taken)))
-
--- what is read is the end of the root
-is : (c : lts.Then2 calls reads.Pre reads.Post) → 7 + c .before .before .before .before .before .wide .result + c .before .before .before .wide2 .result + c .before .wide3 .result ≡ ends (c .before .before .before .before .before .before .before .before .before .args .t .now)
-is c = rw (c .before .before .before .before .before .wide .ensures .0, c .before .before .before .wide2 .ensures .0, c .before .wide3 .ensures .0, c .before .before .get32 .ensures)
-
-read : (c : lts.Else2 calls reads.Pre reads.Post) → 7 + c .before .before .before .before .before .wide .result + c .before .before .before .wide2 .result + c .before .wide3 .result ≡ ends (c .before .before .before .before .before .before .before .before .before .args .t .now)
-read c = rw (c .before .before .before .before .before .wide .ensures .0, c .before .before .before .wide2 .ensures .0, c .before .wide3 .ensures .0, c .before .before .get32 .ensures)
+returns c = (omega arith, λ f n s w e. no-root _ f n s w e (λ h. absurd (omega (arith, h, c .if1 .taken))))
 
 returns-2 : tie.Need-returns-2
-returns-2 c = (c .if2 .taken, λ f rest s w n e. is c ∙ ap ends e ∙ trie-ends f rest s w n)
+returns-2 c = (omega arith, λ f n s w e. no-root _ f n s w e (λ h. sym (c .before .wide .ensures .0 ∙ c .before .before .get32 .ensures) ∙ c .if2 .taken))
+
+-- what is read is the root's
+read : (c : lts.After-wide3 calls reads.Pre reads.Post) → Read c
+read c =
+    let b = c .before .before .before .before .before .wide .ensures .0 ∙ c .before .before .before .before .before .before .get32 .ensures in
+    record { end = rw (c .before .before .wide2 .ensures .0, c .wide3 .ensures .0, b); body = b }
 
 returns-3 : tie.Need-returns-3
 returns-3 c = (
+  c .if3 .taken,
+  λ f n s w e. read (c .before) .end ∙ has-root _ f n s w e (omega arith) (omega (arith, read (c .before) .body, c .before .before .before .before .before .if2 .left)) .0,
+)
+
+returns-4 : tie.Need-returns-4
+returns-4 c = (
   omega arith,
-  λ f rest s w n e.
-      let i = trie-inside _ f rest w n e in
-      let z = read c ∙ ap ends e ∙ trie-ends f rest s w n in
-      absurd (omega (arith, i .1, z, c .if2 .left)),
+  λ f n s w e.
+      let r = has-root _ f n s w e (omega arith) (omega (arith, read (c .before) .body, c .before .before .before .before .before .if2 .left)) in
+      absurd (omega (arith, r, read (c .before) .end, c .if3 .left)),
 )
 
 pub trie-length-spec : {M : Type 1} → statement M
@@ -43,14 +52,15 @@ trie-length-spec =
     tie.close
     (tie.spec
     returns
-    (λ c. search needs)
-    (λ c κs. search needs)
-    (λ c. search needs)
-    (λ c. search needs)
-    (λ c κs. search needs)
-    (λ c. search needs)
     (λ c κs. search needs)
     (λ c κs. search needs)
-    (λ c. search needs)
     returns-2
-    returns-3)
+    (λ c. search needs)
+    (λ c κs. search needs)
+    (λ c. search needs)
+    (λ c. search needs)
+    (λ c κs. search needs)
+    (λ c. search needs)
+    (λ c. search needs)
+    returns-3
+    returns-4)
