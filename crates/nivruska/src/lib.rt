@@ -4,7 +4,8 @@
 pub use store::reply::Reply;
 ghost use mathlib.Core.Path.{_≡_};
 ghost use Rattle.matcher.specs.Matches.{matches};
-ghost use Rattle.book.specs.Promises.{SetsUp};
+ghost use Rattle.book.specs.Promises.{SetsUp, Searches, ReadsLevel};
+ghost use Rattle.search.specs.Asked.{asked};
 ghost use Rattle.store.specs.Said.{said};
 
 // Sets a store up for M, L and τ.
@@ -19,6 +20,42 @@ pub extern "C" fn nivruska_setup(store: &mut [u8], m: u64, l: u64, tau: u64) -> 
     ensures { λ r. ⌜ SetsUp m l tau (now (store .entry)) (now (store .exit)) (said r) ⌝ }
 {
     setup(store, m, l, tau)
+}
+
+// Lists the rows whose path fits the pattern and whose value is from low to high, in row sequence, into the answer.
+pub fn search(store: &[u8], pattern: &[u8], low: u64, high: u64, answer: &mut [u8]) -> Reply
+    ensures { λ r.
+        ⌜ Searches (asked (now (pattern .entry)) low high) (now (store .entry)) (now (answer .entry)) (now (answer .exit)) (said r) ⌝ }
+{
+    store_search::query::search(store, pattern, low, high, answer)
+}
+
+#[no_mangle]
+pub extern "C" fn nivruska_search(
+    store: &[u8],
+    pattern: &[u8],
+    low: u64,
+    high: u64,
+    answer: &mut [u8],
+) -> Reply
+    ensures { λ r.
+        ⌜ Searches (asked (now (pattern .entry)) low high) (now (store .entry)) (now (answer .entry)) (now (answer .exit)) (said r) ⌝ }
+{
+    search(store, pattern, low, high, answer)
+}
+
+// Lists the records of a level, in row sequence, into the answer.
+pub fn read_level(store: &[u8], level: u64, answer: &mut [u8]) -> Reply
+    ensures { λ r. ⌜ ReadsLevel level (now (store .entry)) (now (answer .entry)) (now (answer .exit)) (said r) ⌝ }
+{
+    store_read::level::read_level(store, level, answer)
+}
+
+#[no_mangle]
+pub extern "C" fn nivruska_read_level(store: &[u8], level: u64, answer: &mut [u8]) -> Reply
+    ensures { λ r. ⌜ ReadsLevel level (now (store .entry)) (now (answer .entry)) (now (answer .exit)) (said r) ⌝ }
+{
+    read_level(store, level, answer)
 }
 
 // Does the path fit the pattern? False where either is not formed.
