@@ -1,0 +1,6 @@
+pub mod Growing
+pub mod Accepted
+pub mod Held
+pub mod Placing
+pub mod Looking
+pub mod Promised

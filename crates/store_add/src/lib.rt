@@ -1,0 +1,3 @@
+// The addition of an entry to a store.
+mod lookup;
+mod small;
