@@ -3,4 +3,5 @@ pub mod Accepted
 pub mod Held
 pub mod Placing
 pub mod Looking
+pub mod Checks
 pub mod Promised

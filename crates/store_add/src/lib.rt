@@ -1,3 +1,4 @@
 // The addition of an entry to a store.
+mod check;
 mod lookup;
 mod small;
