@@ -1,4 +1,3 @@
-pub mod Setup
 pub mod Opening
 pub mod Said
 pub mod Parts

@@ -1,6 +1,7 @@
 // Setting a store up: all the bytes needed are written, always the same for the same M, L and τ.
 use crate::front::in_limits;
 use crate::front::needed;
+use crate::reply::Reply;
 use buffer::moves::clear;
 use buffer::numbers::put32;
 ghost use mathlib.Core.Path.{_≡_};
@@ -11,7 +12,8 @@ ghost use Rattle.buffer.specs.Splice.{splice};
 ghost use Rattle.book.specs.Front.{inLimits, need};
 ghost use Rattle.book.specs.Book.{fresh};
 ghost use Rattle.book.specs.Image.{image};
-ghost use Rattle.store.specs.Setup.{Prepared};
+ghost use Rattle.book.specs.Promises.{SetsUp};
+ghost use Rattle.store.specs.Said.{said};
 
 // An empty store: zeros but for M, L and τ.
 fn write_fresh(store: &mut [u8], m: u64, l: u64, tau: u64, n: usize)
@@ -25,16 +27,28 @@ fn write_fresh(store: &mut [u8], m: u64, l: u64, tau: u64, n: usize)
 }
 
 // The number 5 or 6 refuses, 0 accepts.
-pub fn prepare(store: &mut [u8], m: u64, l: u64, tau: u64) -> u64
-    ensures { λ r. ⌜ Prepared m l tau (now (store .entry)) (now (store .exit)) r ⌝ }
+pub fn prepare(store: &mut [u8], m: u64, l: u64, tau: u64) -> Reply
+    ensures { λ r. ⌜ SetsUp m l tau (now (store .entry)) (now (store .exit)) (said r) ⌝ }
 {
     if in_limits(m, l, tau) {
         let n = needed(m as usize, l as usize);
         if store.len() < n {
-            return 6;
+            return Reply {
+                number: 6,
+                first: 0,
+                second: 0,
+            };
         }
         write_fresh(store, m, l, tau, n);
-        return 0;
+        return Reply {
+            number: 0,
+            first: 0,
+            second: 0,
+        };
     }
-    5
+    Reply {
+        number: 5,
+        first: 0,
+        second: 0,
+    }
 }
