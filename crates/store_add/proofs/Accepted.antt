@@ -13,15 +13,16 @@ use Rattle.buffer.specs.Lists.{all}
 use Rattle.buffer.specs.Numbers.{byte}
 use Rattle.buffer.proofs.Tests.{and-left, and-right, and-both}
 use Rattle.rows.specs.Sizes.{referenceSize}
-use Rattle.matcher.specs.Bytes.{pathLimit}
 use Rattle.rows.specs.Entry.{Entry}
-use Rattle.book.specs.Front.{Front, frontSize, inLimits, need, capacity, noStore, full}
+use Rattle.book.specs.Front.{Front, frontOf, frontSize, inLimits, need, capacity, noStore, full}
 use Rattle.book.specs.Book.{formed}
 use Rattle.book.specs.Replies.{addNumber}
 use Rattle.book.specs.Calls.{add, typed}
 use Rattle.book.proofs.Front.{Within, within}
 use Rattle.book.proofs.Numbers.{Acceptable, acceptable}
 use Rattle.book.proofs.Keys.{as-formed, path-short}
+use Rattle.store_add.specs.Ready.{Ready}
+use Rattle.store_add.proofs.Checks.{capacity-most}
 
 -- bytes, element by element
 pub all-bytes : (s : List ℕ) → ((i : ℕ) → getD s i 0 < 256) → all byte s ≡ true
@@ -38,14 +39,6 @@ pub record Stored (n : ℕ) (f : Front) : Type 0 where
   pub enough : need (f .M) (f .L) ≤ n
   pub inside : f .held < f .M * 2 ^ f .L
 
--- .. that is not full, and an entry
-pub record Ready (n : ℕ) (f : Front) (e : Entry) : Type 0 where
-  pub stored : Stored n f
-  pub space : f .held + 1 < f .M * 2 ^ f .L
-  pub short : length (e .path) ≤ pathLimit
-  pub twenty : length (e .reference) ≡ referenceSize
-  pub formed : formed e ≡ true
-
 four-false : (a b c d : Bool) → a || b || c || d ≡ false → (a ≡ false) × (b ≡ false) × (c ≡ false) × (d ≡ false)
 four-false true b c d e = absurd (true≢false e)
 four-false false true c d e = absurd (true≢false e)
@@ -61,6 +54,13 @@ stored n f e =
     let some : 0 < f .M * 2 ^ f .L = mul-le-mul (w .m-low) (pow-pos (f .L)) in
     record { limits = w; enough = ltb-false n (need (f .M) (f .L)) (p .2); inside = omega (arith, some, ltb-false (f .M * 2 ^ f .L - 1) (f .held) (p .3)) }
 
+-- .. so the checks can be made
+pub checkable : (m l held : ℕ) (store : List ℕ) → let f = frontOf store in
+    m ≡ f .M → l ≡ f .L → held ≡ f .held → noStore (length store) f ≡ false → (m ≤ 4096) × (l ≤ 8) × (held < m * 2 ^ l)
+checkable m l held store em el eh e =
+    let s = stored (length store) (frontOf store) e in
+    (omega (arith, em, s .limits .m-high), omega (arith, el, s .limits .l-high), rw (em, el, eh) (s .inside))
+
 space-left : (h x : ℕ) → h < x → (h ≡ x - 1 → ⊥) → h + 1 < x
 space-left h x l n = omega (arith, n)
 
@@ -71,16 +71,33 @@ well-formed n f e z t =
     let v = and-left (ltb (e .value) (2 ^ 64)) (all byte (e .reference)) t in
     rw (a .path, v, a .reference) (and-right (ltb (e .value) (2 ^ 64)) (all byte (e .reference)) t)
 
-pub ready : (n : ℕ) (f : Front) (e : Entry) → addNumber n f e ≡ 0 → typed (add n e) ≡ true → Ready n f e
+pub ready : (m l tau held : ℕ) (e : Entry) (store : List ℕ) → let f = frontOf store in
+    m ≡ f .M → l ≡ f .L → tau ≡ f .τ → held ≡ f .held → addNumber (length store) f e ≡ 0
+    → e .value < 2 ^ 64 → ((i : ℕ) → getD (e .reference) i 0 < 256) → Ready m l tau held e store
 unfolding full capacity
-ready n f e z t =
+ready m l tau held e store em el et eh z v r =
+    let f = frontOf store in
+    let n = length store in
     let a = acceptable n f e z in
     let s = stored n f (a .store) in
-    let g = well-formed n f e z t in
+    let w = s .limits in
+    let t = is-typed n e v r in
+    let space : held + 1 < m * 2 ^ l = rw (em, el, eh) (space-left (f .held) (f .M * 2 ^ f .L) (s .inside) (eqb-false (f .held) (f .M * 2 ^ f .L - 1) (a .space))) in
+    let m-high : m ≤ 4096 = omega (arith, em, w .m-high) in
+    let l-high : l ≤ 8 = omega (arith, el, w .l-high) in
     record {
-      stored = s;
-      space = space-left (f .held) (f .M * 2 ^ f .L) (s .inside) (eqb-false (f .held) (f .M * 2 ^ f .L - 1) (a .space));
-      short = path-short e (as-formed e g);
+      m-is = em;
+      l-is = el;
+      tau-is = et;
+      held-is = eh;
+      accepted = z;
+      types = t;
+      m-low = omega (arith, em, w .m-low);
+      m-high = m-high;
+      l-high = l-high;
+      enough = rw (em, el) (s .enough);
+      space = space;
+      few = omega (arith, space, capacity-most m l m-high l-high);
+      short = path-short e (as-formed e (well-formed n f e z t));
       twenty = eqb-true (length (e .reference)) referenceSize (a .reference);
-      formed = g;
     }

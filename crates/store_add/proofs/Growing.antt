@@ -1,7 +1,7 @@
 -- A trie in its region, and the same trie with a key added. Assumes nothing.
-use mathlib.Core.Path.{_≡_, refl, sym, ap, _∙_}
+use mathlib.Core.Path.{_≡_, refl, sym, ap, ap₂, _∙_}
 use Prim.Native.Nat.{ℕ, _+_, _*_, _-_, _≤_, _<_}
-use mathlib.Core.List.{List, [], _++_, append-nil, append-assoc}
+use mathlib.Core.List.{List, [], _∷_, _++_, append-nil, append-assoc}
 use native.Mathlib.Omega.{arith}
 use native.Mathlib.Nat.{zero-add}
 use lib.ListN.{length, take, drop, replicate, length-append, length-replicate, replicate-append-replicate}
@@ -38,6 +38,19 @@ padded-over n a b h k =
 pub padded-part : (n : ℕ) (a : List ℕ) → region (padded n a) 0 (length a) ≡ a
 unfolding padded
 padded-part n a = take-at a (replicate (n - length a) 0) (length a) refl
+
+-- a path laid over zeros, with one of them behind it
+pub ended-is : (n : ℕ) (path s : List ℕ) → length path < n → s ≡ splice (replicate n 0) 0 path → take (length path + 1 - 0) s ≡ path ++ (0 ∷ [])
+unfolding padded
+ended-is n path s h e =
+    let k : n - length path ≡ 1 + (n - length path - 1) = omega arith in
+    let z : List ℕ = replicate (n - length path - 1) 0 in
+    let q : length path + 1 - 0 ≡ length path + 1 = omega arith in
+    let n-is : n ≡ n - 0 = omega arith in
+    let is : s ≡ (path ++ (0 ∷ [])) ++ z =
+    e ∙ ap (λ (i : ℕ). splice (replicate i 0) 0 path) n-is ∙ padded-over n [] path (omega arith) (omega arith) ∙ ap (λ (i : ℕ). path ++ replicate i 0) k
+    ∙ ap (λ (l : List ℕ). path ++ l) (sym (replicate-append-replicate 1 (n - length path - 1) 0)) ∙ sym (append-assoc path (0 ∷ []) z) in
+    ap₂ take q is ∙ take-at (path ++ (0 ∷ [])) z (length path + 1) (length-append path (0 ∷ []))
 
 module _ (m used : ℕ) (x : Key) (store : List ℕ) (fits : frontRoom + entryRoom * m ≤ length store) where
   abbrev old : List ℕ

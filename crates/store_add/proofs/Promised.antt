@@ -3,16 +3,19 @@ use mathlib.Core.Path.{_≡_, refl, sym, ap, _∙_, subst}
 use mathlib.Core.Logic.{_⊎_, inl, inr}
 use mathlib.Core.Bool.{Bool, true, false}
 use Prim.Native.Nat.{ℕ, zero, suc, _+_, _≤_}
-use mathlib.Core.List.{List, []}
+use mathlib.Core.List.{List, [], _∷_, _++_}
 use native.Mathlib.Omega.{arith}
 use lib.ListN.{length, drop}
 use Rattle.buffer.specs.Lists.{any}
 use Rattle.buffer.specs.Numbers.{bytesOf}
 use Rattle.buffer.specs.Splice.{splice}
+use Rattle.rows.specs.Sizes.{valueSize}
 use Rattle.rows.specs.Entry.{Entry}
+use Rattle.trie_theory.specs.Forest.{Key}
 use Rattle.trie_theory.specs.Dimensions.{root}
 use Rattle.trie_theory.specs.Lookup.{member}
 use Rattle.entries.specs.Keys.{entryKey}
+use Rattle.trie_read.specs.Shape.{keyOf}
 use Rattle.book.specs.Front.{Front, frontOf, need}
 use Rattle.book.specs.Book.{Book, Sound, held, front, put, has}
 use Rattle.book.specs.Tries.{tries, every}
@@ -31,13 +34,19 @@ use Rattle.book.proofs.OverTries.{looked-up}
 use Rattle.book.proofs.FromTries.{add-tries}
 use Rattle.book.proofs.Regions.{heldAt}
 use Rattle.book.proofs.Writes.{as-held}
-use Rattle.store_add.specs.Placed.{LookedUp, Placed}
+use Rattle.store_add.specs.Placed.{entry, LookedUp, Placed}
 use Rattle.store_add.proofs.Held.{held-back, held-beyond, held-size}
+use Rattle.store_add.proofs.Placing.{key-is}
 
 -- a store that holds a book begins with its image
 pub image-held : {store : List ℕ} {b : Book} → HoldsBook store b → store ≡ splice store 0 (image b)
 unfolding image
 image-held {store} {b} h = as-held (h .holds) (image-fits b (h .sound))
+
+-- looked up by the bytes of the entry's key
+pub looked-up-entry : (m l : ℕ) (path reference : List ℕ) (value : ℕ) (bytes ended store : List ℕ) (w : Bool) → bytes ≡ bytesOf valueSize value
+    → ended ≡ path ++ (0 ∷ []) → LookedUp m l (keyOf bytes ended reference) store w → LookedUp m l (entryKey (entry path value reference)) store w
+looked-up-entry m l path reference value bytes ended store w p q h = subst (λ (x : Key). LookedUp m l x store w) (key-is path reference value bytes ended p q) h
 
 module _ (store : List ℕ) (e : Entry) where
   abbrev number : ℕ
@@ -55,6 +64,10 @@ module _ (store : List ℕ) (e : Entry) where
         otherwise = λ y. absurd (let x : suc n ≡ 0 = sym z ∙ y in omega arith);
         ours = λ b h. rw (sym (same-number b h) ∙ z) (refl, image-held h);
       }
+
+  pub refuses-with : (n : ℕ) → n ≡ number → (n ≡ 0 → ⊥) → Adds e store store (reply n 0 0)
+  refuses-with zero q h = absurd (h refl)
+  refuses-with (suc n) q h = refuses n (sym q)
 
   module _ (z : number ≡ 0) where
     none-refuses : {A : Type 0} (n : ℕ) → number ≡ suc n → A

@@ -1,3 +1,5 @@
 pub mod Small
 pub mod Placed
+pub mod Standin
 pub mod Checked
+pub mod Ready

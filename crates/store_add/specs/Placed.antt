@@ -44,3 +44,9 @@ pub record Placed (m l tau n : ℕ) (e : Entry) (store after : List ℕ) : Type 
   pub beyond : drop (need m l) after ≡ drop (need m l) store
   pub ours : (b : Book) → Sound b → Sound (put e b) → Holds store (front b) (tries b) → m ≡ b .M → l ≡ b .L → tau ≡ b .τ → n ≡ held b
       → splice after heldAt (bytesOf 4 (held b + 1)) ≡ splice store 0 (image (put e b))
+
+-- .. and then the held number is written
+pub record Entered (m l tau n : ℕ) (e : Entry) (store after : List ℕ) : Type 0 where
+  pub between : List ℕ
+  pub placed : Placed m l tau n e store between
+  pub is : after ≡ splice between heldAt (bytesOf 4 (n + 1))
