@@ -21,7 +21,7 @@ has-entry-spec =
     (tie.spec Inv-loop μ-loop
     (λ c. (omega arith, looked-none _ _ _ _))
     (λ c κs. search needs)
-    (λ c. looked-found _ _ _ _ (c .before .before .before .loop .k) _ (c .before .before .loop-test .taken) (c .before .trie-has .ensures) (c .if1 .taken))
+    (λ c. looked-found _ _ _ _ (c .before .before .before .loop .k) _ (omega (arith, c .before .before .loop-test .taken)) (c .before .trie-has .ensures) (c .if1 .taken))
     (λ c. search needs)
     (λ c. omega arith)
     (λ c. (omega arith, looked-next _ _ _ _ (c .before .before .before .loop .k) _ (c .before .before .before .loop .inv .1) (c .before .trie-has .ensures) (c .if1 .left)))
