@@ -15,7 +15,7 @@ use Rattle.matcher.specs.declared.form.Form.the-variants.{Fine, TooLong, Malfor
 use Rattle.rows.specs.Sizes.{referenceSize}
 use Rattle.book.specs.Front.{Front, noStore, capacity, full}
 use Rattle.book.specs.Replies.{addNumber}
-use Rattle.store_add.specs.Placed.{entry}
+use Rattle.store_overflow.specs.Steps.{entry}
 use Rattle.store_add.specs.Checked.{Checked}
 
 -- a store has at most 2^20 entries

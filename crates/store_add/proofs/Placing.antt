@@ -35,8 +35,9 @@ use Rattle.trie_read.proofs.Stretch.{length-part}
 use Rattle.store.specs.Parts.{PartOf}
 use Rattle.store.proofs.Places.{good-regular}
 use Rattle.store_add.specs.Small.{SmallGrown}
-use Rattle.store_add.specs.Standin.{Overflowed}
-use Rattle.store_add.specs.Placed.{entry, Placed}
+use Rattle.store_overflow.specs.Overflow.{Overflowed}
+use Rattle.store_overflow.specs.Steps.{entry}
+use Rattle.store_add.specs.Placed.{Placed}
 use Rattle.store_add.proofs.Held.{small-inside, small-room, small-image}
 
 -- the bytes that the addition of an entry takes at most

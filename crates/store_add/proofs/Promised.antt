@@ -34,7 +34,8 @@ use Rattle.book.proofs.OverTries.{looked-up}
 use Rattle.book.proofs.FromTries.{add-tries}
 use Rattle.book.proofs.Regions.{heldAt}
 use Rattle.book.proofs.Writes.{as-held}
-use Rattle.store_add.specs.Placed.{entry, LookedUp, Placed}
+use Rattle.store_overflow.specs.Steps.{entry}
+use Rattle.store_add.specs.Placed.{LookedUp, Placed}
 use Rattle.store_add.proofs.Held.{held-back, held-beyond, held-size}
 use Rattle.store_add.proofs.Placing.{key-is}
 

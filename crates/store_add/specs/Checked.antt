@@ -6,7 +6,7 @@ use mathlib.Core.List.{List}
 use Rattle.rows.specs.Entry.{Entry}
 use Rattle.book.specs.Front.{Front, noStore}
 use Rattle.book.specs.Replies.{addNumber}
-use Rattle.store_add.specs.Placed.{entry}
+use Rattle.store_overflow.specs.Steps.{entry}
 
 -- r is the number of an addition of any value to a store with these numbers
 abbrev pub Checked : ℕ → ℕ → ℕ → List ℕ → List ℕ → ℕ → Type 0

@@ -1,5 +1,4 @@
 pub mod Small
 pub mod Placed
-pub mod Standin
 pub mod Checked
 pub mod Ready

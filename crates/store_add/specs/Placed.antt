@@ -17,12 +17,8 @@ use Rattle.book.specs.Book.{Book, Sound, held, front, put}
 use Rattle.book.specs.Tries.{Tries, every, tries}
 use Rattle.book.specs.Good.{GoodTries}
 use Rattle.book.specs.Image.{image, Holds}
-use Rattle.book.proofs.Regions.{heldAt}
+use Rattle.store_overflow.specs.Overflow.{heldAt}
 use Rattle.store.specs.Parts.{numbered, upTo}
-
--- the entry that an addition names
-abbrev pub entry : List ℕ → ℕ → List ℕ → Entry
-entry path value reference = record { path = path; value = value; reference = reference }
 
 -- r is what is asked of the tries that the store holds
 abbrev pub OfTries : ℕ → ℕ → (Tries → Bool) → List ℕ → Bool → Type 0

@@ -13,7 +13,7 @@ ghost use mathlib.Core.Path.{_≡_};
 ghost use Rattle.book.specs.Replies.{reply};
 ghost use Rattle.book.specs.Promises.{Adds};
 ghost use Rattle.store.specs.Said.{said};
-ghost use Rattle.store_add.specs.Placed.{entry};
+ghost use Rattle.store_overflow.specs.Steps.{entry};
 ghost use Rattle.store_add.specs.Ready.{Ready};
 
 // A path with its end byte.

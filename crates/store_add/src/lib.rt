@@ -4,4 +4,3 @@ mod check;
 mod lookup;
 mod place;
 mod small;
-mod standin;

@@ -5,7 +5,7 @@ use mathlib.Core.Path.{_≡_, sym, _∙_}
 use lib.ListN.{length}
 use Rattle.book.specs.Front.{frontOf}
 use Rattle.book.proofs.Numbers.{add-short}
-use Rattle.store_add.specs.Placed.{entry}
+use Rattle.store_overflow.specs.Steps.{entry}
 use Rattle.store_add.proofs.Accepted.{checkable, ready}
 use Rattle.store_add.proofs.Promised.{refuses, refuses-with}
 use Rattle.store_add.proofs.add.add.Statement.{statement}

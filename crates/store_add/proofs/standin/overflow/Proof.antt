@@ -1,4 +1,0 @@
-use Rattle.store_add.proofs.standin.overflow.Statement.{statement}
-
-pub overflow-spec : {M : Type 1} → statement M
-overflow-spec = ?
