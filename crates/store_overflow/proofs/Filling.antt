@@ -7,7 +7,7 @@ use native.Mathlib.Omega.{arith}
 use native.Mathlib.Nat.{mul-assoc, mul-le-mul}
 use native.Mathlib.Numerals.{add-one}
 use lib.Pow.{pow-pos}
-use lib.ListN.{length, take, drop, replicate, length-append, length-replicate}
+use lib.ListN.{length, drop, replicate, length-append, length-replicate}
 use lib.Seq.{take-at, take-all}
 use Rattle.buffer.specs.Lists.{all, flat}
 use Rattle.buffer.specs.Splice.{splice, region}
@@ -15,7 +15,7 @@ use Rattle.buffer.proofs.Lists.{map-append}
 use Rattle.buffer.proofs.Splice.{splice-then, splice-front, length-splice, drop-at-splice}
 use Rattle.matcher.specs.Bytes.{pathLimit}
 use Rattle.rows.specs.Sizes.{referenceSize, rowSize}
-use Rattle.rows.specs.Entry.{Entry, row, fitsRow}
+use Rattle.rows.specs.Entry.{Entry, fitsRow}
 use Rattle.rows.specs.Order.{entryOrder, recordOrder}
 use Rattle.rows.specs.Sorted.{sorted}
 use Rattle.rows.specs.Records.{records}
@@ -38,11 +38,11 @@ use Rattle.book.specs.Good.{GoodTries}
 use Rattle.book.proofs.Book.{all-snoc}
 use Rattle.book.proofs.EntryKeys.{keys-of-entries}
 use Rattle.store.specs.Parts.{regionAt, regionSize, numbered, upTo}
-use Rattle.store.proofs.Places.{region-within, upTo-next, good-numbered}
+use Rattle.store.proofs.Places.{region-within, good-numbered}
 use Rattle.store_overflow.specs.Steps.{slotsAt, levelBytes, FirstGathered, Filled}
 use Rattle.store_overflow.proofs.Placing.{splice-under, length-put, put-short}
 use Rattle.store_overflow.proofs.LevelBytes.{length-level}
-use Rattle.store_overflow.proofs.FirstTries.{flat-map-append, flat-map-one, records-append}
+use Rattle.store_overflow.proofs.FirstTries.{entries-next, records-append}
 
 -- ---- the most entries of level j
 
@@ -79,8 +79,10 @@ unfolding slot keysOf
 slots-keys xs h =
     let ys = sorted entryOrder xs in
     let g = all-sorted entryOrder fitsRow xs h in
-    let whole : region (flat (map slot ys)) 0 (length ys * slotSize) ≡ flat (map slot ys) = take-all (length ys * slotSize) (flat (map slot ys)) (omega (arith, length-slots ys g)) in
-    ap (map slotKey) (sorted-records (λ e. replicate (slotSize - rowSize) 0) xs h ∙ sym (records-slots ys g)) ∙ entries-keys (flat (map slot ys)) 0 ys g whole
+    let whole : region (flat (map slot ys)) 0 (length ys * slotSize) ≡ flat (map slot ys) =
+    take-all (length ys * slotSize) (flat (map slot ys)) (omega (arith, length-slots ys g)) in
+    ap (map slotKey) (sorted-records (λ e. replicate (slotSize - rowSize) 0) xs h ∙ sym (records-slots ys g))
+    ∙ entries-keys (flat (map slot ys)) 0 ys g whole
 
 -- the entries of good tries have rows
 fit-first : (f : Front) (t : Tries) → GoodTries f t → (k : ℕ) → k ≤ suc (f .L) → all fitsRow (flat (map entriesOf (upTo k t))) ≡ true
@@ -88,14 +90,13 @@ unfolding flat
 fit-first f t g zero h = refl
 fit-first f t g (suc k) h =
     let own = keys-of-entries (numbered t k) (good-numbered f t g k (omega arith) .entries) .1 in
-    let e : flat (map entriesOf (upTo (suc k) t)) ≡ flat (map entriesOf (upTo k t)) ++ entriesOf (numbered t k) =
-    ap (λ (fs : List Forest). flat (map entriesOf fs)) (upTo-next k t) ∙ flat-map-append entriesOf (upTo k t) (numbered t k ∷ [])
-    ∙ ap (λ (es : List Entry). flat (map entriesOf (upTo k t)) ++ es) (flat-map-one entriesOf (numbered t k)) in
-    ap (all fitsRow) e ∙ all-both fitsRow (flat (map entriesOf (upTo k t))) (entriesOf (numbered t k)) (fit-first f t g k (omega arith)) own
+    ap (all fitsRow) (entries-next k t) ∙ all-both fitsRow (flat (map entriesOf (upTo k t))) (entriesOf (numbered t k))
+    (fit-first f t g k (omega arith)) own
 
 -- ---- the level
 
-module _ (m l τ j x n : ℕ) (e : Entry) (short : length (e .path) ≤ pathLimit) (twenty : length (e .reference) ≡ referenceSize) (z : Sized m l j x) (s s₁ s₂ : List ℕ)
+module _ (m l τ j x n : ℕ) (e : Entry) (short : length (e .path) ≤ pathLimit) (twenty : length (e .reference) ≡ referenceSize)
+    (z : Sized m l j x) (s s₁ s₂ : List ℕ)
     (room : need m l ≤ length s) (low : j < l) (g : FirstGathered m l (j + 1) (slotsAt (frontRoom + entryRoom * x) x) (x - 1) s s₁ n)
     (put : s₂ ≡ splice s₁ (slotsAt (frontRoom + entryRoom * x) x + n * slotSize) (slot e)) where
   abbrev base : ℕ
@@ -110,16 +111,17 @@ module _ (m l τ j x n : ℕ) (e : Entry) (short : length (e .path) ≤ pathLimi
   length-both : length both ≡ (n + 1) * slotSize
   length-both = omega (arith, length-append (g .bytes) (slot e), g .long, length-put e short twenty)
 
-  pub few : n + 1 ≤ x
+  few : n + 1 ≤ x
   few = omega (arith, g .most, z .some)
 
   inside : slots + length both ≤ length s
   inside = omega (arith, length-both, few, z .fits)
 
   second : s₂ ≡ splice s slots both
-  second = put ∙ splice-then s₁ s slots (g .bytes) (slots + n * slotSize) (slot e) (g .is) (omega (arith, g .long)) (omega (arith, length-both, length-append (g .bytes) (slot e), inside))
+  second = put ∙ splice-then s₁ s slots (g .bytes) (slots + n * slotSize) (slot e) (g .is)
+      (omega (arith, g .long)) (omega (arith, length-both, length-append (g .bytes) (slot e), inside))
 
-  pub long₂ : length s₂ ≡ length s
+  long₂ : length s₂ ≡ length s
   long₂ = ap length second ∙ length-splice s slots both inside
 
   slots-are : records slotSize (n + 1) (drop slots s₂) ≡ records slotSize n (g .bytes) ++ (slot e ∷ [])
@@ -151,7 +153,8 @@ module _ (m l τ j x n : ℕ) (e : Entry) (short : length (e .path) ≤ pathLimi
   wrote s₃ s₄ a b =
       let third : s₃ ≡ splice s base level-bytes =
       a ∙ ap (λ (t : List ℕ). splice t base level-bytes) second
-      ∙ splice-under s slots both base level-bytes (omega arith) (omega (arith, length-both, length-bytes, few)) (omega (arith, length-bytes, z .fits)) in
+      ∙ splice-under s slots both base level-bytes (omega arith) (omega (arith, length-both, length-bytes, few))
+      (omega (arith, length-bytes, z .fits)) in
       b ∙ splice-front s s₃ frontRoom base zeros level-bytes third (omega (arith, length-zeros)) (omega (arith, length-bytes, z .fits))
 
   -- what was gathered, of tries fs
@@ -169,7 +172,8 @@ module _ (m l τ j x n : ℕ) (e : Entry) (short : length (e .path) ≤ pathLimi
       let r = first (omega (arith, z .is)) in
       let rows = fit-first f t good (suc j) (omega (arith, el, low)) in
       let all-slots : records slotSize (n + 1) (drop slots s₂) ≡ map slot xs =
-      slots-are ∙ ap (λ (rs : List (List ℕ)). rs ++ (slot e ∷ [])) (ap₂ (records slotSize) (r .0) (r .1) ∙ records-slots es rows) ∙ sym (map-append slot es (e ∷ [])) in
+      slots-are ∙ ap (λ (rs : List (List ℕ)). rs ++ (slot e ∷ [])) (ap₂ (records slotSize) (r .0) (r .1) ∙ records-slots es rows)
+      ∙ sym (map-append slot es (e ∷ [])) in
       ap (λ (rs : List (List ℕ)). padded (entryRoom * x) (encode (levelOf 2 τ (map slotKey (sorted recordOrder rs))))) all-slots
       ∙ ap (λ (ks : List Key). padded (entryRoom * x) (encode (levelOf 2 τ ks))) (slots-keys xs (all-snoc fitsRow es e rows fit))
 
