@@ -19,7 +19,7 @@ use Rattle.trie_theory.specs.SmallTrie.{smallTrie}
 use Rattle.trie_theory.specs.TrieOf.{TrieOf}
 use Rattle.trie_theory.proofs.TrieOf.{level-entries, small-entries, figures}
 use Rattle.entries.specs.Keys.{entryKey}
-use Rattle.book.specs.Front.{Front, frontSize, frontRoom, entryRoom, frontBytes, need}
+use Rattle.book.specs.Front.{Front, frontSize, frontRoom, entryRoom, frontBytes, inLimits, need}
 use Rattle.book.specs.Digits.{digit, rounds, levelSize, levelStart, level, small}
 use Rattle.book.specs.Book.{Book, Sound, front, formed}
 use Rattle.book.specs.Tries.{Tries, levelTrie, tries}
@@ -48,7 +48,7 @@ unfolding small
 small-formed m es a = all-drop formed (m * rounds m es) es a
 
 -- a level has no more entries than its region has kilobytes
-level-few : (m i : ℕ) (es : List Entry) → length (level m i es) ≤ m * 2 ^ i
+pub level-few : (m i : ℕ) (es : List Entry) → length (level m i es) ≤ m * 2 ^ i
 unfolding digit
 level-few m i es =
     let d : digit i (rounds m es) ≤ 1 = omega arith in
@@ -108,21 +108,25 @@ store-front f t =
 
 -- ---- the image
 
-pub image-fits : (b : Book) → Sound b → Fit (b .M) (b .L) (tries b)
+-- within the limits the tries of formed entries fit
+pub formed-fit : (b : Book) → inLimits (b .M) (b .L) (b .τ) ≡ true → all formed (b .entries) ≡ true → Fit (b .M) (b .L) (tries b)
 unfolding tries
-image-fits b s =
-    let w = within (b .M) (b .L) (b .τ) (s .limits) in
+formed-fit b limits whole =
+    let w = within (b .M) (b .L) (b .τ) limits in
     let few : length (small (b .M) (b .entries)) < b .M = subst (λ (k : ℕ). k < b .M) (sym (small-length (b .M) (b .entries))) (mod-lt (length (b .entries)) (w .m-low)) in
     record {
-      small = omega (arith, small-bytes (small (b .M) (b .entries)) (small-formed (b .M) (b .entries) (s .formed)));
+      small = omega (arith, small-bytes (small (b .M) (b .entries)) (small-formed (b .M) (b .entries) whole));
       levels = λ i h.
           omega (
             arith,
-            level-bytes (level (b .M) i (b .entries)) (level-formed (b .M) i (b .entries) (s .formed)) (b .τ),
+            level-bytes (level (b .M) i (b .entries)) (level-formed (b .M) i (b .entries) whole) (b .τ),
             level-few (b .M) i (b .entries),
             mul-assoc entryRoom (b .M) (2 ^ i),
           );
     }
+
+pub image-fits : (b : Book) → Sound b → Fit (b .M) (b .L) (tries b)
+image-fits b s = formed-fit b (s .limits) (s .formed)
 
 pub length-image : (b : Book) → Sound b → length (image b) ≡ need (b .M) (b .L)
 unfolding image
