@@ -9,9 +9,9 @@ pub overfull-spec : {M : Type 1} → statement M
 overfull-spec =
     tie.close
     (tie.spec
-    (λ c. held-room _ _ _ _ _ _ (c .if1 .taken))
+    (λ c. held-room _ _ _ _ _ _ (omega (arith, c .if1 .taken)))
     (λ c. search needs)
     (λ c κs. search needs)
-    (λ c. found-room _ _ (c .before .before .before .search-tries .ensures) (c .if2 .taken))
+    (λ c. found-room _ _ (c .before .before .before .search-tries .ensures) (omega (arith, c .if2 .taken)))
     (λ c κs. search needs)
-    (λ c. found-over _ _ (c .before .before .before .before .search-tries .ensures) _ (omega arith) (c .before .if2 .left) (c .least .ensures)))
+    (λ c. found-over _ _ (c .before .before .before .before .search-tries .ensures) _ (omega arith) (omega (arith, c .before .if2 .left)) (c .least .ensures)))

@@ -1,5 +1,6 @@
 -- Each check as it refuses, and then the listing. Assumes nothing.
 use borrow.Author.Needs.{needs}
+use native.Mathlib.Omega.{arith}
 use Rattle.store.specs.Opening.{OpenedAs}
 use Rattle.store.specs.declared.front.Opened.the-variants.{Store}
 use Rattle.store_search.proofs.Checks.{fine-pattern, accepted-query, opened-within, refuses-4, refuses-query, lists}
@@ -20,7 +21,7 @@ opened c = rw (c .f .given .1) at (c .before .before .open .ensures)
 list-rows-requires : tie.Need-list-rows-requires
 list-rows-requires c κs =
     let o = opened (c .before .before .before .before) in
-    (fine-pattern _ (accepted-query _ _ (c .before .before .query-number .ensures) (c .before .if1 .left)), opened-within _ _ (o .0) (o .1))
+    (fine-pattern _ (accepted-query _ _ (c .before .before .query-number .ensures) (omega (arith, c .before .if1 .left))), opened-within _ _ (o .0) (o .1))
 
 returns-2 : tie.Need-returns-2
 returns-2 c =
@@ -34,7 +35,7 @@ search-spec =
     (λ c κs. search needs)
     (λ c. search needs)
     (λ c κs. search needs)
-    (λ c. refuses-query _ (opened (c .before .before .before) .1) (c .before .query-number .ensures) (c .if1 .taken))
+    (λ c. refuses-query _ (opened (c .before .before .before) .1) (c .before .query-number .ensures) (omega (arith, c .if1 .taken)))
     list-rows-requires
     (λ c. search needs)
     (λ c. search needs)
