@@ -4,8 +4,9 @@
 pub use store::reply::Reply;
 ghost use mathlib.Core.Path.{_≡_};
 ghost use Rattle.matcher.specs.Matches.{matches};
-ghost use Rattle.book.specs.Promises.{SetsUp, Searches, ReadsLevel};
+ghost use Rattle.book.specs.Promises.{SetsUp, Adds, Searches, ReadsLevel};
 ghost use Rattle.search.specs.Asked.{asked};
+ghost use Rattle.store_overflow.specs.Steps.{entry};
 ghost use Rattle.store.specs.Said.{said};
 
 // Sets a store up for M, L and τ.
@@ -20,6 +21,27 @@ pub extern "C" fn nivruska_setup(store: &mut [u8], m: u64, l: u64, tau: u64) -> 
     ensures { λ r. ⌜ SetsUp m l tau (now (store .entry)) (now (store .exit)) (said r) ⌝ }
 {
     setup(store, m, l, tau)
+}
+
+// Adds an entry.
+pub fn add(store: &mut [u8], path: &[u8], value: u64, reference: &[u8]) -> Reply
+    ensures { λ r.
+        ⌜ Adds (entry (now (path .entry)) value (now (reference .entry))) (now (store .entry)) (now (store .exit)) (said r) ⌝ }
+{
+    store_add::add::add(store, path, value, reference)
+}
+
+#[no_mangle]
+pub extern "C" fn nivruska_add(
+    store: &mut [u8],
+    path: &[u8],
+    value: u64,
+    reference: &[u8],
+) -> Reply
+    ensures { λ r.
+        ⌜ Adds (entry (now (path .entry)) value (now (reference .entry))) (now (store .entry)) (now (store .exit)) (said r) ⌝ }
+{
+    add(store, path, value, reference)
 }
 
 // Lists the rows whose path fits the pattern and whose value is from low to high, in row sequence, into the answer.
