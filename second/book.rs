@@ -18,11 +18,7 @@ pub struct Reply {
 }
 
 fn reply(number: u32, first: usize, second: u64) -> Reply {
-    Reply {
-        number,
-        first: first as u64,
-        second,
-    }
+    Reply { number, first: first as u64, second }
 }
 
 #[derive(Clone, PartialEq)]
@@ -76,10 +72,7 @@ impl Book {
         if lent < numbers.need() {
             return reply(6, 0, 0);
         }
-        *self = Book {
-            numbers: Some(numbers),
-            entries: Vec::new(),
-        };
+        *self = Book { numbers: Some(numbers), entries: Vec::new() };
         reply(0, 0, 0)
     }
 
@@ -100,11 +93,7 @@ impl Book {
         if self.entries.len() == numbers.limit() {
             return reply(9, 0, 0);
         }
-        let entry = Entry {
-            path: path.to_vec(),
-            value,
-            reference: reference.to_vec(),
-        };
+        let entry = Entry { path: path.to_vec(), value, reference: reference.to_vec() };
         if self.entries.contains(&entry) {
             return reply(100, self.entries.len(), 0);
         }

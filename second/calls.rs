@@ -42,9 +42,7 @@ fn guard_byte(at: usize) -> u8 {
 impl Guarded {
     pub fn new(bytes: &[u8]) -> Guarded {
         let guard: Vec<u8> = (0..GUARD).map(guard_byte).collect();
-        Guarded {
-            all: [&guard[..], bytes, &guard].concat(),
-        }
+        Guarded { all: [&guard[..], bytes, &guard].concat() }
     }
 
     pub fn bytes(&self) -> &[u8] {
@@ -75,10 +73,7 @@ struct Argument<'a> {
 
 impl<'a> Argument<'a> {
     fn new(bytes: &'a [u8]) -> Self {
-        Argument {
-            lent: Guarded::new(bytes),
-            bytes,
-        }
+        Argument { lent: Guarded::new(bytes), bytes }
     }
 
     fn stands(&self) -> Result<(), String> {
@@ -101,18 +96,7 @@ fn run_search(store: &mut Guarded, lent: usize, pattern: &[u8], range: (u64, u64
     let mut pattern = Argument::new(pattern);
     let (pattern_at, pattern_len, answer_len) = (pattern.lent.pointer(), pattern.bytes.len(), answer.bytes().len());
     let (low, high) = range;
-    let reply = unsafe {
-        nivruska_search(
-            store.pointer(),
-            lent,
-            pattern_at,
-            pattern_len,
-            low,
-            high,
-            answer.pointer(),
-            answer_len,
-        )
-    };
+    let reply = unsafe { nivruska_search(store.pointer(), lent, pattern_at, pattern_len, low, high, answer.pointer(), answer_len) };
     pattern.stands()?;
     Ok(reply)
 }
@@ -123,9 +107,7 @@ pub fn run(store: &mut Guarded, call: &Call) -> Result<(Reply, Vec<u8>), String>
     let reply = match call {
         Call::Setup { lent, numbers: n } => unsafe { nivruska_setup(store.pointer(), *lent, n.m, n.l, n.tau) },
         Call::Add { lent, entry: e } => run_add(store, *lent, &e.path, e.value, &e.reference)?,
-        Call::Search {
-            lent, pattern, low, high, ..
-        } => run_search(store, *lent, pattern, (*low, *high), &mut answer)?,
+        Call::Search { lent, pattern, low, high, .. } => run_search(store, *lent, pattern, (*low, *high), &mut answer)?,
         Call::ReadLevel { lent, level, .. } => unsafe {
             nivruska_read_level(store.pointer(), *lent, *level, answer.pointer(), call.answer().len())
         },

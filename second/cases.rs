@@ -34,26 +34,10 @@ impl Random {
 
 #[derive(Clone)]
 pub enum Call {
-    Setup {
-        lent: usize,
-        numbers: Numbers,
-    },
-    Add {
-        lent: usize,
-        entry: Entry,
-    },
-    Search {
-        lent: usize,
-        pattern: Vec<u8>,
-        low: u64,
-        high: u64,
-        answer: Vec<u8>,
-    },
-    ReadLevel {
-        lent: usize,
-        level: u64,
-        answer: Vec<u8>,
-    },
+    Setup { lent: usize, numbers: Numbers },
+    Add { lent: usize, entry: Entry },
+    Search { lent: usize, pattern: Vec<u8>, low: u64, high: u64, answer: Vec<u8> },
+    ReadLevel { lent: usize, level: u64, answer: Vec<u8> },
 }
 
 impl Call {
@@ -62,13 +46,7 @@ impl Call {
         match self {
             Call::Setup { lent, numbers: n } => format!("setup {lent} {} {} {}", n.m, n.l, n.tau),
             Call::Add { lent, entry: e } => format!("add {lent} x{} {} x{}", hex(&e.path), e.value, hex(&e.reference)),
-            Call::Search {
-                lent,
-                pattern,
-                low,
-                high,
-                answer,
-            } => format!("search {lent} x{} {low} {high} x{}", hex(pattern), hex(answer)),
+            Call::Search { lent, pattern, low, high, answer } => format!("search {lent} x{} {low} {high} x{}", hex(pattern), hex(answer)),
             Call::ReadLevel { lent, level, answer } => format!("read_level {lent} {level} x{}", hex(answer)),
         }
     }
@@ -92,9 +70,7 @@ pub fn expected(book: &mut Book, call: &Call) -> (Reply, Vec<u8>) {
     let reply = match call {
         Call::Setup { lent, numbers: n } => book.setup(*lent, n.m, n.l, n.tau),
         Call::Add { lent, entry: e } => book.add(*lent, &e.path, e.value, &e.reference),
-        Call::Search {
-            lent, pattern, low, high, ..
-        } => book.search(*lent, pattern, *low, *high, &mut answer),
+        Call::Search { lent, pattern, low, high, .. } => book.search(*lent, pattern, *low, *high, &mut answer),
         Call::ReadLevel { lent, level, .. } => book.read_level(*lent, *level, &mut answer),
     };
     (reply, answer)
@@ -115,9 +91,8 @@ const TINY: &[&str] = &["a", "b", "ab", "aa", "ba", "aab"];
 const WORDS: &[&str] = &["north", "south", "pond", "pond3", "map.c", "edge", "n", "no", "sub"];
 /// The path bytes at the edges of what is allowed.
 const EDGES: &[u8] = &[0x20, 0x21, 0x29, 0x2B, 0x2E, 0x30, 0x7E, 0x80, 0x81, 0xFE, 0xFF];
-const NO_PATHS: &[&[u8]] = &[
-    b"", b"/", b"a", b"//", b"/a/", b"/a//b", b"/a*", b"/*", b"/\x7f", b"/\x1f", b"/\x00", b"/a\x00", b"a/b", b"/a/\x0a", b" /a", b"/**",
-];
+const NO_PATHS: &[&[u8]] =
+    &[b"", b"/", b"a", b"//", b"/a/", b"/a//b", b"/a*", b"/*", b"/\x7f", b"/\x1f", b"/\x00", b"/a\x00", b"a/b", b"/a/\x0a", b" /a", b"/**"];
 const NO_PATTERNS: &[&[u8]] = &[
     b"", b"/", b"*", b"**", b"//", b"/a/", b"/a//b", b"/a**b", b"/***", b"/**a", b"/a**", b"/*/**x", b"/\x7f", b"/a\x00", b"a", b"/a/*/",
     b"/****", b"/\x1f",
@@ -148,9 +123,7 @@ fn new_path(random: &mut Random, kind: usize) -> Vec<u8> {
     let labels = match kind {
         0 => (0..1 + random.below(3)).map(|_| random.pick(TINY).as_bytes().to_vec()).collect(),
         1 => (0..1 + random.below(5)).map(|_| random.pick(WORDS).as_bytes().to_vec()).collect(),
-        2 => (0..*random.pick(&[31, 32, 33, 34, 99, 100]))
-            .map(|_| random.pick(&[b"a", b"a", b"a", b"b"]).to_vec())
-            .collect(),
+        2 => (0..*random.pick(&[31, 32, 33, 34, 99, 100])).map(|_| random.pick(&[b"a", b"a", b"a", b"b"]).to_vec()).collect(),
         3 => return long_path(random),
         4 => (0..1 + random.below(4)).map(|_| label_of(random, EDGES, 3)).collect::<Vec<_>>(),
         5 => (0..1 + random.below(4)).map(|_| label_of(random, &all, 12)).collect(),
@@ -239,11 +212,7 @@ fn entry(random: &mut Random, style: &Style, book: &Book) -> Entry {
     if !book.entries.is_empty() && random.chance(12) {
         return random.pick(&book.entries).clone();
     }
-    Entry {
-        path: path(random, style, book),
-        value: value(random, style, book),
-        reference: reference(random, style, book),
-    }
+    Entry { path: path(random, style, book), value: value(random, style, book), reference: reference(random, style, book) }
 }
 
 /// Stars in place of parts of a label.
@@ -262,10 +231,7 @@ fn starred(random: &mut Random, label: &[u8]) -> Vec<u8> {
 }
 
 fn near_pattern(random: &mut Random, path: &[u8]) -> Vec<u8> {
-    let mut labels: Vec<Vec<u8>> = path[1.min(path.len())..]
-        .split(|&byte| byte == b'/')
-        .map(|label| starred(random, label))
-        .collect();
+    let mut labels: Vec<Vec<u8>> = path[1.min(path.len())..].split(|&byte| byte == b'/').map(|label| starred(random, label)).collect();
     for _ in 0..random.below(3) {
         let at = random.below(labels.len() + 1);
         match random.below(3) {
@@ -282,11 +248,7 @@ fn no_pattern(random: &mut Random) -> Vec<u8> {
     match random.below(3) {
         0 => random.pick(NO_PATTERNS).to_vec(),
         1 => piece.repeat(*random.pick(&[31, 32, 33, 66, 67, 100])),
-        _ => [
-            b"/".to_vec(),
-            vec![*random.pick(b"a*/"); *random.pick(&[198, 199, 200, 201, 255, 400])],
-        ]
-        .concat(),
+        _ => [b"/".to_vec(), vec![*random.pick(b"a*/"); *random.pick(&[198, 199, 200, 201, 255, 400])]].concat(),
     }
 }
 
@@ -310,16 +272,7 @@ pub fn pattern(random: &mut Random, style: &Style, book: &Book) -> Vec<u8> {
 fn range(random: &mut Random, style: &Style, book: &Book) -> (u64, u64) {
     let mut end = || {
         let value = value(random, style, book);
-        *random.pick(&[
-            value,
-            value,
-            value.wrapping_add(1),
-            value.wrapping_sub(1),
-            value & !0xFF,
-            value | 0xFFFF,
-            0,
-            u64::MAX,
-        ])
+        *random.pick(&[value, value, value.wrapping_add(1), value.wrapping_sub(1), value & !0xFF, value | 0xFFFF, 0, u64::MAX])
     };
     let (low, high) = (end(), end());
     if random.chance(style.faults) || low <= high {
@@ -332,16 +285,7 @@ fn range(random: &mut Random, style: &Style, book: &Book) -> (u64, u64) {
 /// A buffer around what is needed: `rows` of `size` bytes.
 fn answer(random: &mut Random, rows: usize, size: usize) -> Vec<u8> {
     let exact = rows * size;
-    let length = *random.pick(&[
-        exact,
-        exact,
-        exact + 1,
-        exact + 300,
-        exact.saturating_sub(1),
-        exact + size,
-        0,
-        exact / 2,
-    ]);
+    let length = *random.pick(&[exact, exact, exact + 1, exact + 300, exact.saturating_sub(1), exact + size, 0, exact / 2]);
     random.bytes(length)
 }
 
@@ -351,22 +295,7 @@ fn lent(random: &mut Random, style: &Style, book: &Book) -> usize {
     }
     let need = book.numbers.unwrap_or(style.numbers).need();
     let some = random.below(style.memory + 1);
-    let lengths = [
-        0,
-        1,
-        4,
-        15,
-        16,
-        17,
-        4095,
-        4096,
-        need - 1,
-        need - 1,
-        need,
-        need + 1,
-        style.memory - 1,
-        some,
-    ];
+    let lengths = [0, 1, 4, 15, 16, 17, 4095, 4096, need - 1, need - 1, need, need + 1, style.memory - 1, some];
     (*random.pick(&lengths)).min(style.memory)
 }
 
@@ -386,52 +315,33 @@ fn numbers(random: &mut Random, style: &Style) -> Numbers {
 }
 
 pub fn setup(random: &mut Random, style: &Style, book: &Book) -> Call {
-    Call::Setup {
-        lent: lent(random, style, book),
-        numbers: numbers(random, style),
-    }
+    Call::Setup { lent: lent(random, style, book), numbers: numbers(random, style) }
 }
 
 pub fn add(random: &mut Random, style: &Style, book: &Book) -> Call {
-    Call::Add {
-        lent: lent(random, style, book),
-        entry: entry(random, style, book),
-    }
+    Call::Add { lent: lent(random, style, book), entry: entry(random, style, book) }
 }
 
 pub fn search(random: &mut Random, style: &Style, book: &Book) -> Call {
     let (lent, pattern, (low, high)) = (lent(random, style, book), pattern(random, style, book), range(random, style, book));
     let rows = book.search(lent, &pattern, low, high, &mut []).first as usize;
-    Call::Search {
-        lent,
-        pattern,
-        low,
-        high,
-        answer: answer(random, rows, ROW),
-    }
+    Call::Search { lent, pattern, low, high, answer: answer(random, rows, ROW) }
 }
 
 pub fn read_level(random: &mut Random, style: &Style, book: &Book) -> Call {
     let lent = lent(random, style, book);
     let other = *random.pick(&[style.numbers.l, 8, 63, 64, 256, 1 << 32, u64::MAX]);
-    let level = if random.chance(10) {
-        other
-    } else {
-        random.below(style.numbers.l as usize) as u64
-    };
+    let level = if random.chance(10) { other } else { random.below(style.numbers.l as usize) as u64 };
     let rows = book.read_level(lent, level, &mut []).first as usize;
-    Call::ReadLevel {
-        lent,
-        level,
-        answer: answer(random, rows, RECORD),
-    }
+    Call::ReadLevel { lent, level, answer: answer(random, rows, RECORD) }
 }
 
-/// Any call, additions more often than not.
+/// Any call, additions more often than not while the store is not full.
 pub fn call(random: &mut Random, style: &Style, book: &Book) -> Call {
+    let full = book.numbers.is_some_and(|numbers| book.entries.len() == numbers.limit());
     match random.below(100) {
         at if at < style.setups => setup(random, style, book),
-        at if at < 70 => add(random, style, book),
+        at if at < if full { 25 } else { 70 } => add(random, style, book),
         at if at < 90 => search(random, style, book),
         _ => read_level(random, style, book),
     }
@@ -439,31 +349,12 @@ pub fn call(random: &mut Random, style: &Style, book: &Book) -> Call {
 
 /// The style of a list: mostly small stores.
 pub fn style(random: &mut Random) -> Style {
-    let (m, l) = *random.pick(&[
-        (1, 1),
-        (1, 2),
-        (1, 3),
-        (1, 5),
-        (2, 1),
-        (2, 2),
-        (2, 3),
-        (3, 2),
-        (4, 2),
-        (5, 1),
-        (8, 2),
-        (9, 1),
-        (16, 1),
-        (30, 1),
-    ]);
+    const SIZES: &[(u64, u64)] =
+        &[(1, 1), (1, 2), (1, 3), (1, 5), (1, 6), (2, 1), (2, 2), (2, 4), (3, 3), (4, 2), (5, 1), (5, 3), (8, 2), (9, 1), (16, 1), (30, 1)];
+    let (m, l) = *random.pick(SIZES);
     let tau = *random.pick(&[1, 1, 1, 2, 2, 3, 5, 100]);
     let numbers = Numbers { m, l, tau };
     let memory = numbers.need() + *random.pick(&[0, 0, 1, 100, 5000, 70_000]);
     let kinds = [random.below(PATH_KINDS), random.below(5), random.below(3)];
-    Style {
-        memory,
-        numbers,
-        kinds,
-        faults: *random.pick(&[0, 2, 2, 10, 30]),
-        setups: *random.pick(&[0, 0, 1, 5]),
-    }
+    Style { memory, numbers, kinds, faults: *random.pick(&[0, 2, 2, 10, 30]), setups: *random.pick(&[0, 0, 1, 5]) }
 }

@@ -1,5 +1,6 @@
 //! Stores that our calls did not leave. What is decided there: refusals but for 11, that search and reading back leave the store as it
-//! was, that nothing changes beyond the need and after the last row, and that 11 is said only where held rows would not fit.
+//! was, that nothing changes beyond the need and after the last row, that 11 is said only where held rows would not fit, and that an
+//! addition gives the held number that the store has then.
 
 use crate::book::{Book, Entry, Numbers, Reply, RECORD, ROW};
 use crate::calls::{run, Guarded};
@@ -17,14 +18,7 @@ fn front(lent: &[u8]) -> Option<(Numbers, u64)> {
     if lent.len() < 16 {
         return None;
     }
-    let (numbers, held) = (
-        Numbers {
-            m: word(lent, 0),
-            l: word(lent, 4),
-            tau: word(lent, 8),
-        },
-        word(lent, 12),
-    );
+    let (numbers, held) = (Numbers { m: word(lent, 0), l: word(lent, 4), tau: word(lent, 8) }, word(lent, 12));
     (numbers.in_limits() && numbers.need() <= lent.len() && held <= numbers.limit() as u64).then_some((numbers, held))
 }
 
@@ -53,17 +47,24 @@ fn check_answer(call: &Call, held: u64, got: Reply, answer: &[u8], size: usize) 
     let space = before.len() as u64;
     match got.number {
         0 if got.first > space / size as u64 => Err("more rows than there is space for".to_string()),
-        0 => difference(
-            "after the last row",
-            &answer[got.first as usize * size..],
-            &before[got.first as usize * size..],
-        ),
+        0 => difference("after the last row", &answer[got.first as usize * size..], &before[got.first as usize * size..]),
         11 if held * size as u64 <= space => Err("11 with space for all that are held".to_string()),
         11 if got.first <= space / size as u64 => Err("11 with a row count that there is space for".to_string()),
+        11 if got.first > held => Err("11 with more rows than are held".to_string()),
         11 if got.second != 0 => Err("11 with a second value".to_string()),
         11 => difference("answer buffer after 11", answer, before),
         _ => Err("neither 0 nor 11".to_string()),
     }
+}
+
+/// 0, or 100 and no change; the values are the held number afterwards and zero.
+fn check_addition(before: &[u8], after: &[u8], need: usize, got: Reply) -> Result<(), String> {
+    match got {
+        Reply { number: 0, .. } => difference("beyond the need", &after[need..], &before[need..])?,
+        Reply { number: 100, .. } => difference("memory after 100", after, before)?,
+        _ => return Err("neither 0 nor 100".to_string()),
+    }
+    ((got.first, got.second) == (word(after, 12), 0)).then_some(()).ok_or("values other than held and zero".to_string())
 }
 
 /// What holds of a call on any store.
@@ -81,28 +82,16 @@ fn check(call: &Call, before: &[u8], after: &[u8], got: Reply, answer: &[u8]) ->
     if refusal != 0 {
         difference("memory after a refusal", after, before)?;
         difference("answer buffer after a refusal", answer, call.answer())?;
-        let wanted = Reply {
-            number: refusal,
-            first: 0,
-            second: 0,
-        };
+        let wanted = Reply { number: refusal, first: 0, second: 0 };
         return (got == wanted).then_some(()).ok_or(format!("not {wanted:?}"));
     }
     let (numbers, held) = opened.expect("not refused");
     match call {
-        Call::Add { .. } => {
-            difference("beyond the need", &after[numbers.need()..], &before[numbers.need()..])?;
-            [0, 100].contains(&got.number).then_some(()).ok_or("neither 0 nor 100".to_string())
-        }
+        Call::Add { .. } => check_addition(before, after, numbers.need(), got),
+        Call::ReadLevel { .. } if got.second != 0 => Err("a level read back with a second value".to_string()),
         _ => {
             difference("a store that is only read", after, before)?;
-            check_answer(
-                call,
-                held,
-                got,
-                answer,
-                if matches!(call, Call::Search { .. }) { ROW } else { RECORD },
-            )
+            check_answer(call, held, got, answer, if matches!(call, Call::Search { .. }) { ROW } else { RECORD })
         }
     }
 }
@@ -155,15 +144,7 @@ fn flip(random: &mut Random, region: &mut [u8]) {
     let end = used(region);
     for _ in 0..1 + random.below(6) {
         let at = random.below(end);
-        region[at] = *random.pick(&[
-            0,
-            1,
-            2,
-            0xFF,
-            region[at] ^ 1 << (random.0 % 8),
-            random.0 as u8,
-            region[at].wrapping_add(1),
-        ]);
+        region[at] = *random.pick(&[0, 1, 2, 0xFF, region[at] ^ 1 << (random.0 % 8), random.0 as u8, region[at].wrapping_add(1)]);
     }
 }
 
@@ -185,13 +166,7 @@ fn spoil(random: &mut Random, bytes: &mut [u8], numbers: Numbers) {
         bytes.copy_within(a..a + m.min(n), b);
     }
     if random.chance(60) {
-        let held = *random.pick(&[
-            1,
-            numbers.m as usize,
-            numbers.limit() - 1,
-            numbers.limit(),
-            random.0 as usize % (numbers.limit() + 2),
-        ]);
+        let held = *random.pick(&[1, numbers.m as usize, numbers.limit() - 1, numbers.limit(), random.0 as usize % (numbers.limit() + 2)]);
         bytes[12..16].copy_from_slice(&(held as u32).to_be_bytes());
     }
     if random.chance(10) {
@@ -207,18 +182,11 @@ fn sound(random: &mut Random, style: &mut Style) -> Result<Session, String> {
     style.faults = 3;
     style.setups = 0;
     let (m, l) = *random.pick(&[(1, 8), (1, 3), (2, 2), (4, 2), (8, 3), (9, 1), (60, 1), (250, 1)]);
-    style.numbers = Numbers {
-        m,
-        l,
-        tau: style.numbers.tau,
-    };
+    style.numbers = Numbers { m, l, tau: style.numbers.tau };
     style.memory = style.numbers.need() + random.below(3) * 500;
     let mut session = Session::new(random.bytes(style.memory));
     session.every_byte = false;
-    session.call(&Call::Setup {
-        lent: style.memory,
-        numbers: style.numbers,
-    })?;
+    session.call(&Call::Setup { lent: style.memory, numbers: style.numbers })?;
     for _ in 0..random.below(style.numbers.limit() + 3) {
         let add = cases::add(random, style, &session.book);
         session.call(&add)?;
@@ -251,10 +219,7 @@ pub fn damage(seed: u64) -> Outcome {
     }
     let left = session.store.bytes().to_vec();
     let mut after = Session::new(left);
-    after.call(&Call::Setup {
-        lent: style.memory,
-        numbers: style.numbers,
-    })?;
+    after.call(&Call::Setup { lent: style.memory, numbers: style.numbers })?;
     for _ in 0..5 {
         let call = cases::call(&mut random, &style, &after.book);
         after.call(&call)?;

@@ -51,10 +51,7 @@ fn run_cases(case: fn(u64) -> parts::Outcome, from: u64, to: u64) -> Result<u64,
 
 fn run_child(part: &Part, from: u64, to: u64) -> ! {
     let case = part.1;
-    let thread = std::thread::Builder::new()
-        .stack_size(STACK)
-        .spawn(move || run_cases(case, from, to))
-        .expect("a thread");
+    let thread = std::thread::Builder::new().stack_size(STACK).spawn(move || run_cases(case, from, to)).expect("a thread");
     match thread.join() {
         Ok(Ok(calls)) => println!("calls {calls}"),
         Ok(Err(fault)) => println!("{fault}"),
@@ -89,11 +86,7 @@ fn watch(child: &mut Child) -> (String, bool) {
 fn run_part((name, _, count): &Part) -> bool {
     let begin = Instant::now();
     let me = std::env::current_exe().expect("this program");
-    let mut child = Command::new(me)
-        .args(["case", name, "0", &count.to_string()])
-        .stdout(Stdio::piped())
-        .spawn()
-        .expect("a child");
+    let mut child = Command::new(me).args(["case", name, "0", &count.to_string()]).stdout(Stdio::piped()).spawn().expect("a child");
     let (last, silent) = watch(&mut child);
     let seconds = begin.elapsed().as_secs_f64();
     match last.strip_prefix("calls ") {
@@ -113,11 +106,7 @@ fn main() {
             run_child(part_of(name), from.parse().expect("a number"), to.parse().expect("a number"));
         }
     }
-    let wanted: Vec<&Part> = if arguments.is_empty() {
-        PARTS.iter().collect()
-    } else {
-        arguments.iter().map(part_of).collect()
-    };
+    let wanted: Vec<&Part> = if arguments.is_empty() { PARTS.iter().collect() } else { arguments.iter().map(part_of).collect() };
     let failed = wanted.iter().filter(|part| !run_part(part)).count();
     println!("{} parts passed, {failed} failed", wanted.len() - failed);
     exit((failed > 0) as i32);

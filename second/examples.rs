@@ -2,10 +2,11 @@
 
 use crate::book::{Entry, Numbers, RECORD, ROW};
 use crate::cases::Call;
-use crate::parts::Outcome;
-use crate::patterns::{can_continue, fits};
+use crate::parts::{texts, Outcome};
+use crate::patterns::{can_continue, fits, is_path, is_pattern};
 use crate::session::Session;
 use crate::tries::{key_of, position, value_can_continue, Key, P, V};
+use std::collections::HashSet;
 
 /// Table 1 of document 000: path, value, the first bytes of the reference. Keys 1 to 9.
 const TABLE_1: [(&str, u64, u64); 9] = [
@@ -37,11 +38,7 @@ fn table_1(number: usize) -> Entry {
     let (path, value, first) = TABLE_1[number - 1];
     let mut reference = vec![0; 20];
     reference[..5].copy_from_slice(&first.to_be_bytes()[3..]);
-    Entry {
-        path: path.as_bytes().to_vec(),
-        value,
-        reference,
-    }
+    Entry { path: path.as_bytes().to_vec(), value, reference }
 }
 
 fn positions(numbers: &[usize]) -> (usize, usize) {
@@ -78,17 +75,10 @@ fn read_back() -> Outcome {
     let mut session = Session::new(vec![0; lent]);
     session.call(&Call::Setup { lent, numbers })?;
     for number in 1..=9 {
-        session.call(&Call::Add {
-            lent,
-            entry: table_1(number),
-        })?;
+        session.call(&Call::Add { lent, entry: table_1(number) })?;
     }
     let mut answer = vec![0xEE; 9 * RECORD];
-    session.call(&Call::ReadLevel {
-        lent,
-        level: 0,
-        answer: answer.clone(),
-    })?;
+    session.call(&Call::ReadLevel { lent, level: 0, answer: answer.clone() })?;
     session.book.read_level(lent, 0, &mut answer);
     for (number, nodes) in TABLE_5 {
         let path = table_1(number).path;
@@ -108,29 +98,32 @@ fn listing() -> Outcome {
     session.call(&Call::Setup { lent, numbers })?;
     for (path, value, last) in [("/north/pond", 7, 1), ("/north/edge", 7, 1), ("/south/edge", 9, 2)] {
         let reference = [vec![0; 19], vec![last]].concat();
-        session.call(&Call::Add {
-            lent,
-            entry: Entry {
-                path: path.into(),
-                value,
-                reference,
-            },
-        })?;
+        session.call(&Call::Add { lent, entry: Entry { path: path.into(), value, reference } })?;
     }
-    let reply = session.call(&Call::Search {
-        lent,
-        pattern: b"/**/edge".to_vec(),
-        low: 0,
-        high: 8,
-        answer: vec![0xEE; 16_384],
-    })?;
+    let reply = session.call(&Call::Search { lent, pattern: b"/**/edge".to_vec(), low: 0, high: 8, answer: vec![0xEE; 16_384] })?;
     hold("the listing", (reply.first, reply.second) == (1, 4))?;
     let short = session.call(&Call::Setup { lent: 20_479, numbers })?;
     hold("the example of 6", short.number == 6)?;
     Ok(session.calls)
 }
 
+/// What can be continued, against all short paths: each beginning of a path that fits, with its end byte, and nothing else.
+fn continuations() -> Result<(), String> {
+    let (paths, known) = (texts(b"/ab", 9), texts(b"/ab\0", 4));
+    let paths: Vec<&Vec<u8>> = paths.iter().filter(|path| is_path(path)).collect();
+    for pattern in texts(b"/a*", 5).iter().filter(|pattern| is_pattern(pattern)) {
+        let fitting = paths.iter().filter(|path| fits(pattern, path)).map(|path| [&path[..], &[0]].concat());
+        let begins: HashSet<Vec<u8>> = fitting.flat_map(|whole| (0..=whole.len().min(4)).map(move |end| whole[..end].to_vec())).collect();
+        for bytes in &known {
+            let name = format!("\"{}\" continued for {}", bytes.escape_ascii(), pattern.escape_ascii());
+            hold(&name, can_continue(pattern, bytes) == begins.contains(bytes))?;
+        }
+    }
+    Ok(())
+}
+
 pub fn examples(_: u64) -> Outcome {
     fields()?;
+    continuations()?;
     Ok(read_back()? + listing()?)
 }

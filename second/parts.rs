@@ -37,13 +37,7 @@ fn read_all(session: &mut Session, random: &mut Random, lent: usize) -> Result<(
     let levels = session.book.numbers.map_or(0, |numbers| numbers.l);
     for short in 0..2 {
         let answer = random.bytes((held * ROW).saturating_sub(short));
-        session.call(&Call::Search {
-            lent,
-            pattern: b"/**".to_vec(),
-            low: 0,
-            high: u64::MAX,
-            answer,
-        })?;
+        session.call(&Call::Search { lent, pattern: b"/**".to_vec(), low: 0, high: u64::MAX, answer })?;
     }
     for level in 0..=levels {
         let rows = session.book.read_level(lent, level, &mut []).first as usize;
@@ -101,14 +95,14 @@ pub fn full(seed: u64) -> Outcome {
         if digits < 6 || digits % 16 >= 15 || digits + 2 >= 1 << l {
             fill(&mut session, &mut random, &style, ((digits + 1) * m as usize).saturating_sub(1))?;
             read_all(&mut session, &mut random, style.memory)?;
+            for _ in 0..4 {
+                let search = cases::search(&mut random, &style, &session.book);
+                session.call(&search)?;
+            }
         }
     }
     for _ in 0..3 {
-        let fresh = Entry {
-            path: b"/one/more".to_vec(),
-            value: random.next(),
-            reference: random.bytes(20),
-        };
+        let fresh = Entry { path: b"/one/more".to_vec(), value: random.next(), reference: random.bytes(20) };
         let held = session.book.entries[random.below(numbers.limit())].clone();
         for entry in [fresh, held] {
             session.call(&Call::Add { lent: style.memory, entry })?;
@@ -123,15 +117,8 @@ pub fn full(seed: u64) -> Outcome {
 /// Paths that are each a beginning of the next, and values that go with them: tries of some 200 nodes deep.
 pub fn deep(seed: u64) -> Outcome {
     let mut random = Random(seed);
-    let numbers = Numbers {
-        m: *random.pick(&[1, 1, 2, 60, 255, 128]),
-        l: 1,
-        tau: 1 + seed % 2,
-    };
-    let numbers = Numbers {
-        l: if numbers.m < 3 { 8 - numbers.m / 2 } else { 1 },
-        ..numbers
-    };
+    let numbers = Numbers { m: *random.pick(&[1, 1, 2, 60, 255, 128]), l: 1, tau: 1 + seed % 2 };
+    let numbers = Numbers { l: if numbers.m < 3 { 8 - numbers.m / 2 } else { 1 }, ..numbers };
     let lent = numbers.need();
     let mut session = Session::new(random.bytes(lent));
     session.call(&setup(numbers, lent))?;
@@ -143,22 +130,12 @@ pub fn deep(seed: u64) -> Outcome {
     }
     for (at, length) in lengths.into_iter().enumerate() {
         let value = [1 << (length % 64), length as u64, 0][random.below(3)];
-        let entry = Entry {
-            path: [b"/".to_vec(), vec![b'a'; length]].concat(),
-            value,
-            reference: vec![at as u8; 20],
-        };
+        let entry = Entry { path: [b"/".to_vec(), vec![b'a'; length]].concat(), value, reference: vec![at as u8; 20] };
         session.call(&Call::Add { lent, entry })?;
         if at % 30 == 29 || at == 198 {
             let pattern = [b"/".to_vec(), vec![b'a'; random.below(190)], b"*".to_vec()].concat();
             let answer = random.bytes(199 * ROW);
-            session.call(&Call::Search {
-                lent,
-                pattern,
-                low: 0,
-                high: random.next(),
-                answer,
-            })?;
+            session.call(&Call::Search { lent, pattern, low: 0, high: random.next(), answer })?;
             read_all(&mut session, &mut random, lent)?;
         }
     }
@@ -177,11 +154,7 @@ pub fn sequences(seed: u64) -> Outcome {
             scratch.add(usize::MAX, &e.path, e.value, &e.reference);
         }
     }
-    let numbers = Numbers {
-        m: 2 + seed % 7,
-        l: 2,
-        tau: 1 + seed % 3,
-    };
+    let numbers = Numbers { m: 2 + seed % 7, l: 2, tau: 1 + seed % 3 };
     let mut session = Session::new(random.bytes(numbers.need()));
     for order in 0..120 {
         session.call(&setup(numbers, numbers.need()))?;
@@ -189,10 +162,7 @@ pub fn sequences(seed: u64) -> Outcome {
         while !left.is_empty() {
             let entry = left.remove(code % left.len());
             code /= left.len() + 1;
-            session.call(&Call::Add {
-                lent: numbers.need(),
-                entry,
-            })?;
+            session.call(&Call::Add { lent: numbers.need(), entry })?;
         }
         for _ in 0..2 {
             style.memory = numbers.need();
@@ -213,35 +183,18 @@ fn combinations(memory: usize, need: usize, held: Option<&Entry>) -> Vec<Call> {
     for lent in [0, 15, 16, need - 1, need, memory] {
         for (path, times) in PATHS {
             for length in [19, 20, 21] {
-                let entry = Entry {
-                    path: path.repeat(*times),
-                    value: 7,
-                    reference: vec![1; length],
-                };
+                let entry = Entry { path: path.repeat(*times), value: 7, reference: vec![1; length] };
                 calls.push(Call::Add { lent, entry });
             }
         }
-        calls.extend(held.map(|entry| Call::Add {
-            lent,
-            entry: entry.clone(),
-        }));
+        calls.extend(held.map(|entry| Call::Add { lent, entry: entry.clone() }));
         for (pattern, times) in PATTERNS {
             for (low, high, length) in [(0, u64::MAX, 0), (9, 8, 0), (0, u64::MAX, 300_000), (9, 8, 228), (7, 7, ROW)] {
-                calls.push(Call::Search {
-                    lent,
-                    pattern: pattern.repeat(*times),
-                    low,
-                    high,
-                    answer: vec![0xEE; length],
-                });
+                calls.push(Call::Search { lent, pattern: pattern.repeat(*times), low, high, answer: vec![0xEE; length] });
             }
         }
         for (level, length) in [(0, 0), (0, RECORD - 1), (1, 40_000), (8, 0), (u64::MAX, 10)] {
-            calls.push(Call::ReadLevel {
-                lent,
-                level,
-                answer: vec![0xEE; length],
-            });
+            calls.push(Call::ReadLevel { lent, level, answer: vec![0xEE; length] });
         }
     }
     calls
@@ -270,14 +223,7 @@ fn setups(memory: usize, need: usize, numbers: Numbers) -> Vec<Call> {
 pub fn refused(seed: u64) -> Outcome {
     let mut random = Random(seed);
     let mut style = cases::style(&mut random);
-    (style.numbers, style.faults) = (
-        Numbers {
-            m: 1 + seed % 4,
-            l: 1 + seed / 4 % 2,
-            tau: 1 + seed % 2,
-        },
-        0,
-    );
+    (style.numbers, style.faults) = (Numbers { m: 1 + seed % 4, l: 1 + seed / 4 % 2, tau: 1 + seed % 2 }, 0);
     let need = style.numbers.need();
     style.memory = need + 100 * (seed as usize % 2);
     let mut session = Session::new(vec![0; style.memory]);
@@ -304,15 +250,8 @@ pub fn refused(seed: u64) -> Outcome {
 pub fn large(seed: u64) -> Outcome {
     let mut random = Random(seed);
     let mut style = cases::style(&mut random);
-    (style.numbers, style.faults, style.kinds) = (
-        Numbers {
-            m: 4096,
-            l: 1,
-            tau: 1 + 99 * (seed % 2),
-        },
-        0,
-        [1 + 4 * (seed as usize % 2), 3, 2],
-    );
+    (style.numbers, style.faults, style.kinds) =
+        (Numbers { m: 4096, l: 1, tau: 1 + 99 * (seed % 2) }, 0, [1 + 4 * (seed as usize % 2), 3, 2]);
     style.memory = style.numbers.need();
     let mut session = Session::new(random.bytes(style.memory));
     session.call(&setup(style.numbers, style.memory))?;
@@ -323,11 +262,7 @@ pub fn large(seed: u64) -> Outcome {
         let search = cases::search(&mut random, &style, &session.book);
         session.call(&search)?;
     }
-    let entry = Entry {
-        path: b"/one/more".to_vec(),
-        value: 0,
-        reference: vec![9; 20],
-    };
+    let entry = Entry { path: b"/one/more".to_vec(), value: 0, reference: vec![9; 20] };
     session.call(&Call::Add { lent: style.memory, entry })?;
     read_all(&mut session, &mut random, style.memory)?;
     session.compare_memory(false)?;
@@ -335,7 +270,7 @@ pub fn large(seed: u64) -> Outcome {
 }
 
 /// All texts over an alphabet of up to `longest` bytes.
-fn texts(alphabet: &[u8], longest: usize) -> Vec<Vec<u8>> {
+pub fn texts(alphabet: &[u8], longest: usize) -> Vec<Vec<u8>> {
     let mut all: Vec<Vec<u8>> = vec![Vec::new()];
     let mut from = 0;
     for _ in 0..longest {
@@ -351,20 +286,12 @@ fn texts(alphabet: &[u8], longest: usize) -> Vec<Vec<u8>> {
 fn compare_fits(pattern: &[u8], path: &[u8]) -> Result<(), String> {
     let (got, wanted) = (calls::fits(pattern, path), fits(pattern, path));
     if got != wanted {
-        return Err(format!(
-            "fits(\"{}\", \"{}\") is {got}",
-            pattern.escape_ascii(),
-            path.escape_ascii()
-        ));
+        return Err(format!("fits(\"{}\", \"{}\") is {got}", pattern.escape_ascii(), path.escape_ascii()));
     }
     // the book's two ways to decide: a whole path with its end byte can be continued exactly when it fits
     let whole = [path, &[0]].concat();
     if crate::patterns::is_pattern(pattern) && path.len() <= 200 && can_continue(pattern, &whole) != wanted {
-        return Err(format!(
-            "the book disagrees with itself on \"{}\", \"{}\"",
-            pattern.escape_ascii(),
-            path.escape_ascii()
-        ));
+        return Err(format!("the book disagrees with itself on \"{}\", \"{}\"", pattern.escape_ascii(), path.escape_ascii()));
     }
     Ok(())
 }
@@ -388,11 +315,7 @@ pub fn matcher(seed: u64) -> Outcome {
     for _ in 0..300 {
         let path = cases::path(&mut random, &style, &book);
         if crate::patterns::is_path(&path) && random.chance(40) {
-            book.entries.push(Entry {
-                path: path.clone(),
-                value: 0,
-                reference: Vec::new(),
-            });
+            book.entries.push(Entry { path: path.clone(), value: 0, reference: Vec::new() });
         }
         let pattern = cases::pattern(&mut random, &style, &book);
         compare_fits(&pattern, &path)?;

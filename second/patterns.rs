@@ -119,12 +119,8 @@ fn after(pattern: &[&[u8]], state: State, byte: u8) -> Option<State> {
     }
 }
 
-/// Whether some bytes make a path of it that fits. All states have such bytes, but for a label that has none and may take none.
-fn is_alive(pattern: &[&[u8]], state: &State) -> bool {
-    !matches!(*state, Inside(i, j, false) if j == pattern[i].len())
-}
-
-/// Whether the bytes known can be continued to a path of any length, with its end byte, that a formed pattern fits.
+/// Whether the bytes known can be continued to a path of any length, with its end byte, that a formed pattern fits. The one state that no
+/// bytes lead on from, a label without a byte that may take none, never stands alone: the state before its `*` stands beside it.
 pub fn can_continue(pattern: &[u8], known: &[u8]) -> bool {
     let pattern = labels(pattern).expect("a formed pattern");
     if known.first().is_some_and(|&byte| byte != b'/') {
@@ -141,5 +137,5 @@ pub fn can_continue(pattern: &[u8], known: &[u8]) -> bool {
         }
         states = next;
     }
-    states.iter().any(|state| is_alive(&pattern, state))
+    !states.is_empty()
 }

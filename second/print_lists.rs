@@ -14,10 +14,7 @@ use cases::{hex, Call, Random};
 fn print_image(book: &Book) {
     const BLOCK: usize = 1024;
     let image = book.image();
-    let blocks = image
-        .chunks(BLOCK)
-        .enumerate()
-        .filter(|(_, block)| block.iter().any(|&byte| byte != 0));
+    let blocks = image.chunks(BLOCK).enumerate().filter(|(_, block)| block.iter().any(|&byte| byte != 0));
     let text: Vec<String> = blocks.map(|(at, block)| format!("{at}:{}", hex(block))).collect();
     println!("image {} {}", image.len(), text.join(" "));
 }
@@ -28,10 +25,7 @@ fn print_list(seed: u64) {
     let mut book = Book::default();
     println!("list {seed}");
     for at in 0..10 + random.below(60) {
-        let first = Call::Setup {
-            lent: style.memory,
-            numbers: style.numbers,
-        };
+        let first = Call::Setup { lent: style.memory, numbers: style.numbers };
         let call = if at == 2 { first } else { cases::call(&mut random, &style, &book) };
         let (reply, answer) = cases::expected(&mut book, &call);
         println!("{}", call.text());

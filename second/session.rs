@@ -24,13 +24,7 @@ pub fn difference(what: &str, got: &[u8], wanted: &[u8]) -> Result<(), String> {
 
 impl Session {
     pub fn new(memory: Vec<u8>) -> Session {
-        Session {
-            book: Book::default(),
-            store: Guarded::new(&memory),
-            memory,
-            calls: 0,
-            every_byte: true,
-        }
+        Session { book: Book::default(), store: Guarded::new(&memory), memory, calls: 0, every_byte: true }
     }
 
     /// One call through both.
@@ -38,11 +32,7 @@ impl Session {
         self.calls += 1;
         self.compare(call).map_err(|fault| {
             let held = self.book.entries.len();
-            format!(
-                "call {}, {held} held afterwards by the book: {fault}\n  {}",
-                self.calls,
-                call.text()
-            )
+            format!("call {}, {held} held afterwards by the book: {fault}\n  {}", self.calls, call.text())
         })
     }
 

@@ -22,14 +22,7 @@ fn book_of(store: &[u8]) -> Book {
     if store.len() < 16 {
         return Book::default();
     }
-    let (numbers, held) = (
-        Numbers {
-            m: word(store, 0),
-            l: word(store, 4),
-            tau: word(store, 8),
-        },
-        word(store, 12),
-    );
+    let (numbers, held) = (Numbers { m: word(store, 0), l: word(store, 4), tau: word(store, 8) }, word(store, 12));
     if !numbers.in_limits() || store.len() < numbers.need() || held > numbers.limit() as u64 {
         return Book::default();
     }
@@ -40,16 +33,9 @@ fn book_of(store: &[u8]) -> Book {
 
 /// A book for bytes that are not known: only what the front says.
 fn damaged(numbers: Numbers, held: u64) -> Book {
-    let mut book = Book {
-        numbers: Some(numbers),
-        entries: Vec::new(),
-    };
+    let mut book = Book { numbers: Some(numbers), entries: Vec::new() };
     if held == numbers.limit() as u64 {
-        let entry = book::Entry {
-            path: b"/?".to_vec(),
-            value: 0,
-            reference: vec![0; 20],
-        };
+        let entry = book::Entry { path: b"/?".to_vec(), value: 0, reference: vec![0; 20] };
         book.entries = vec![entry; numbers.limit()];
     }
     book

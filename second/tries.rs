@@ -17,19 +17,13 @@ pub struct Key {
 
 pub fn key_of(path: &[u8], value: u64, reference: &[u8]) -> Key {
     let path_bytes = [path, &[END]].concat();
-    Key {
-        strings: [value.to_be_bytes().to_vec(), path_bytes],
-        reference: reference.to_vec(),
-    }
+    Key { strings: [value.to_be_bytes().to_vec(), path_bytes], reference: reference.to_vec() }
 }
 
 impl Key {
     /// What remains of a key from these offsets on.
     fn rest(&self, from: [usize; 2]) -> Key {
-        Key {
-            strings: [V, P].map(|d| self.strings[d][from[d]..].to_vec()),
-            reference: self.reference.clone(),
-        }
+        Key { strings: [V, P].map(|d| self.strings[d][from[d]..].to_vec()), reference: self.reference.clone() }
     }
 }
 
@@ -63,11 +57,7 @@ fn build(keys: &[&Key], tau: usize, wanted: usize, above: [usize; 2]) -> Node {
     let here = [position(keys, V), position(keys, P)];
     let strings = [V, P].map(|d| keys[0].strings[d][above[d] - 1..here[d] - 1].to_vec());
     let differs = |d: &usize| here[*d] <= keys[0].strings[*d].len();
-    let branch = if keys.len() > tau {
-        [wanted, 1 - wanted].into_iter().find(differs)
-    } else {
-        None
-    };
+    let branch = if keys.len() > tau { [wanted, 1 - wanted].into_iter().find(differs) } else { None };
     let children = match branch {
         Some(d) => parts(keys, d, here[d]).iter().map(|part| build(part, tau, 1 - d, here)).collect(),
         None => Vec::new(),
@@ -76,12 +66,7 @@ fn build(keys: &[&Key], tau: usize, wanted: usize, above: [usize; 2]) -> Node {
         Some(_) => Vec::new(),
         None => keys.iter().map(|key| key.rest([here[V] - 1, here[P] - 1])).collect(),
     };
-    Node {
-        branch,
-        strings,
-        children,
-        suffixes,
-    }
+    Node { branch, strings, children, suffixes }
 }
 
 /// The trie of a level. Its keys are in row sequence in each leaf.
@@ -92,16 +77,8 @@ pub fn level(keys: &[Key], tau: usize) -> Node {
 }
 
 fn small_leaf(key: &Key) -> Node {
-    let empty = Key {
-        strings: [Vec::new(), Vec::new()],
-        reference: key.reference.clone(),
-    };
-    Node {
-        branch: None,
-        strings: key.strings.clone(),
-        children: Vec::new(),
-        suffixes: vec![empty],
-    }
+    let empty = Key { strings: [Vec::new(), Vec::new()], reference: key.reference.clone() };
+    Node { branch: None, strings: key.strings.clone(), children: Vec::new(), suffixes: vec![empty] }
 }
 
 fn sort_children(node: &mut Node) {
@@ -113,15 +90,10 @@ fn sort_children(node: &mut Node) {
 /// node and a new leaf keep the rest"
 fn split(node: &mut Node, key: &Key, same: [usize; 2], d: usize) {
     let strings = [V, P].map(|d| node.strings[d][..same[d]].to_vec());
-    let mut old = node.clone();
-    old.strings = [V, P].map(|d| node.strings[d][same[d]..].to_vec());
-    let children = vec![old, small_leaf(&key.rest(same))];
-    *node = Node {
-        branch: Some(d),
-        strings,
-        children,
-        suffixes: Vec::new(),
-    };
+    let parent = Node { branch: Some(d), strings, children: Vec::new(), suffixes: Vec::new() };
+    let mut old = std::mem::replace(node, parent);
+    old.strings = [V, P].map(|d| old.strings[d][same[d]..].to_vec());
+    node.children = vec![old, small_leaf(&key.rest(same))];
     sort_children(node);
 }
 
@@ -207,13 +179,7 @@ pub fn walks(node: &Node, known: &[Vec<u8>; 2], steps: &[[u8; 3]], found: &mut V
     }
     for suffix in &node.suffixes {
         let strings = [V, P].map(|d| [&known[d][..], &suffix.strings[d]].concat());
-        found.push((
-            Key {
-                strings,
-                reference: suffix.reference.clone(),
-            },
-            steps.clone(),
-        ));
+        found.push((Key { strings, reference: suffix.reference.clone() }, steps.clone()));
     }
 }
 
@@ -230,17 +196,6 @@ pub fn encode(node: &Node) -> Vec<u8> {
         let lengths = [V, P].map(|d| suffix.strings[d].len() as u8);
         body.extend([&lengths[..], &suffix.reference, &suffix.strings[V], &suffix.strings[P]].concat());
     }
-    let head = [
-        node.branch.map_or(0, |d| d as u8 + 1),
-        node.strings[V].len() as u8,
-        node.strings[P].len() as u8,
-    ];
-    [
-        &head[..],
-        &(body.len() as u32).to_be_bytes(),
-        &node.strings[V],
-        &node.strings[P],
-        &body,
-    ]
-    .concat()
+    let head = [node.branch.map_or(0, |d| d as u8 + 1), node.strings[V].len() as u8, node.strings[P].len() as u8];
+    [&head[..], &(body.len() as u32).to_be_bytes(), &node.strings[V], &node.strings[P], &body].concat()
 }
