@@ -41,7 +41,7 @@ pub enum Call {
 }
 
 impl Call {
-    /// One line that says the call.
+    /// One line that says the call, bytes as hex after an x.
     pub fn text(&self) -> String {
         match self {
             Call::Setup { lent, numbers: n } => format!("setup {lent} {} {} {}", n.m, n.l, n.tau),
@@ -49,6 +49,11 @@ impl Call {
             Call::Search { lent, pattern, low, high, answer } => format!("search {lent} x{} {low} {high} x{}", hex(pattern), hex(answer)),
             Call::ReadLevel { lent, level, answer } => format!("read_level {lent} {level} x{}", hex(answer)),
         }
+    }
+
+    /// As much of it as a report needs.
+    pub fn brief(&self) -> String {
+        self.text().chars().take(600).collect()
     }
 
     /// The bytes of the answer buffer that the call is lent.

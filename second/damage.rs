@@ -98,9 +98,9 @@ fn check(call: &Call, before: &[u8], after: &[u8], got: Reply, answer: &[u8]) ->
 
 fn call_on(store: &mut Guarded, call: &Call) -> Result<(), String> {
     let before = store.bytes().to_vec();
-    let (got, answer) = run(store, call).map_err(|fault| format!("{fault}\n  {}", call.text()))?;
+    let (got, answer) = run(store, call).map_err(|fault| format!("{fault}\n  {}", call.brief()))?;
     let checked = check(call, &before, store.bytes(), got, &answer);
-    checked.map_err(|fault| format!("{fault}, the reply is {got:?}\n  {}", call.text()))
+    checked.map_err(|fault| format!("{fault}, the reply is {got:?}\n  {}", call.brief()))
 }
 
 /// The regions of the tries: from, length.

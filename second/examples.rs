@@ -122,8 +122,23 @@ fn continuations() -> Result<(), String> {
     Ok(())
 }
 
+/// Each of the 256 bytes in a path and in a pattern: 221 are path bytes.
+fn every_byte() -> Outcome {
+    let numbers = Numbers { m: 16, l: 4, tau: 2 };
+    let lent = numbers.need();
+    let mut session = Session::new(vec![0xEE; lent]);
+    session.call(&Call::Setup { lent, numbers })?;
+    for byte in 0..=255 {
+        let entry = Entry { path: vec![b'/', byte], value: byte as u64, reference: vec![byte; 20] };
+        session.call(&Call::Add { lent, entry })?;
+        session.call(&Call::Search { lent, pattern: vec![b'/', byte, b'*'], low: 0, high: 255, answer: vec![0xEE; 2 * ROW] })?;
+    }
+    hold("221 path bytes", session.book.entries.len() == 221)?;
+    Ok(session.calls)
+}
+
 pub fn examples(_: u64) -> Outcome {
     fields()?;
     continuations()?;
-    Ok(read_back()? + listing()?)
+    Ok(read_back()? + listing()? + every_byte()?)
 }

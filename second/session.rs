@@ -32,7 +32,7 @@ impl Session {
         self.calls += 1;
         self.compare(call).map_err(|fault| {
             let held = self.book.entries.len();
-            format!("call {}, {held} held afterwards by the book: {fault}\n  {}", self.calls, call.text())
+            format!("call {}, {held} held afterwards by the book: {fault}\n  {}", self.calls, call.brief())
         })
     }
 
