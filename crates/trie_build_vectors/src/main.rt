@@ -5,10 +5,12 @@ use entries::SLOT_SIZE;
 use rows::sizes::ROW_SIZE;
 use trie_sets::positions::paths_are_short;
 use trie_sets::positions::split;
+use trie_sets::positions::wide;
 ghost use mathlib.Core.Path.{_≡_};
 ghost use mathlib.Core.Bool.{true};
 ghost use Prim.Native.Nat.{_*_, _≤_, _<_};
 ghost use lib.ListN.{length};
+ghost use Rattle.rows.specs.Sizes.{rowSize};
 ghost use Rattle.entries.specs.Slots.{slotSize};
 ghost use Rattle.trie_sets.specs.Sets.{shortPaths};
 
@@ -23,14 +25,8 @@ const SCRATCH: usize = 16384;
 
 const MEMORY: usize = 24576;
 
-fn wide(b: u8) -> usize
-    ensures { λ r. ⌜ r < 256 ⌝ }
-{
-    b as usize
-}
-
 fn lay(s: &mut [u8], k: usize, row: &[u8])
-    requires { ⌜ (length (now s) ≡ 24576) × (k < 32) × (length (now row) ≡ 229) ⌝ }
+    requires { ⌜ (length (now s) ≡ 24576) × (k < 32) × (length (now row) ≡ rowSize) ⌝ }
 {
     let at = SLOTS + k * SLOT_SIZE;
     buffer::moves::clear(s, at, SLOT_SIZE);
