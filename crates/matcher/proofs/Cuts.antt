@@ -5,7 +5,7 @@ use mathlib.Core.Bool.{Bool, true, false, cond}
 use Prim.Native.Nat.{ℕ, suc, _+_, _-_, _<_, _≤_}
 use native.Mathlib.Numerals.{add-one}
 use native.Mathlib.Omega.{arith}
-use lib.ListN.{length, take, drop, getD}
+use lib.ListN.{length, take, drop, getD, drop-of-length-le}
 use lib.Dec.{eqb}
 use borrow.Author.Tests.{eq-eqb, ne-eqb, eqb-true}
 use Rattle.buffer.specs.Lists.{none}
@@ -14,7 +14,7 @@ use Rattle.matcher.specs.Labels.{upToSlash, labelsOf, deep}
 use Rattle.matcher.specs.Fit.{afterSome, first, fitsLabel, fitLabels}
 use Rattle.matcher.specs.Inner.{Begun, Cut, Says}
 use Rattle.matcher.specs.declared.fit.Trial.{Trial}
-use Rattle.matcher.proofs.Parts.{tail-part, no-items, rest, front, back, step, done}
+use Rattle.matcher.proofs.Parts.{tail-part, no-items, rest, front, back, step}
 use Rattle.matcher.proofs.Trials.{fit-wild, fit-one, Passes, pass-on, first-on, first-off}
 
 -- what stands up to the next `/`, at an index
@@ -31,7 +31,7 @@ pub up-more : (s : List ℕ) (i : ℕ) → i < length s → (getD s i 0 ≡ slas
 up-more s i l e = ap length (ap upToSlash (step s i l) ∙ no-slash-here (drop (i + 1) s) (getD s i 0) e)
 
 pub up-end : (s : List ℕ) (i : ℕ) → length s ≤ i → length (upToSlash (drop i s)) ≡ 0
-up-end s i l = ap (λ (t : List ℕ). length (upToSlash t)) (done s i l)
+up-end s i l = ap (λ (t : List ℕ). length (upToSlash t)) (drop-of-length-le s l)
 
 -- the labels from an index on
 pub count-here : (s : List ℕ) (i : ℕ) → i < length s → getD s i 0 ≡ slash → length (labelsOf (drop i s)) ≡ suc (length (labelsOf (drop (i + 1) s)))
@@ -41,7 +41,7 @@ pub count-on : (s : List ℕ) (i : ℕ) → i < length s → (getD s i 0 ≡ sla
 count-on s i l e = rw (step s i l, ne-eqb _ _ e)
 
 pub count-end : (s : List ℕ) (i : ℕ) → length s ≤ i → length (labelsOf (drop i s)) ≡ 0
-count-end s i l = ap (λ (t : List ℕ). length (labelsOf t)) (done s i l)
+count-end s i l = ap (λ (t : List ℕ). length (labelsOf t)) (drop-of-length-le s l)
 
 -- a list is what stands up to its first `/`, and then what begins there
 pub take-up : (t : List ℕ) → take (length (upToSlash t)) t ≡ upToSlash t

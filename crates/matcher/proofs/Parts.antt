@@ -4,8 +4,8 @@ use mathlib.Core.List.{List, [], _∷_}
 use Prim.Native.Nat.{ℕ, _+_, _-_, _<_, _≤_}
 use native.Mathlib.Numerals.{add-one}
 use native.Mathlib.Omega.{arith}
-use lib.ListN.{length, take, drop, getD, length-drop, drop-of-length-le}
-use lib.Seq.{take-all, drop-cons, drop-drop}
+use lib.ListN.{length, take, drop, getD, length-drop}
+use lib.Seq.{drop-cons, drop-drop}
 use mathlib.Core.Bool.{false}
 use Rattle.buffer.specs.Lists.{none}
 pub use Rattle.buffer.proofs.Lists.{tail-part}
@@ -39,10 +39,6 @@ length-back k b = rw (tail-part b k) (length-drop b k)
 -- a walk along a list: what is left from i on is the element there and what is left from i + 1 on
 pub step : (s : List ℕ) (i : ℕ) → i < length s → drop i s ≡ getD s i 0 ∷ drop (i + 1) s
 step s i l = rw add-one (drop-cons s i 0 l)
-
--- .. and nothing at the end
-pub done : (s : List ℕ) (i : ℕ) → length s ≤ i → drop i s ≡ []
-done s i l = drop-of-length-le s l
 
 pub not-none : {A : Type 0} (l : List A) → (length l ≡ 0 → ⊥) → none l ≡ false
 not-none [] f = absurd (f refl)

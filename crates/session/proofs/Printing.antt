@@ -24,7 +24,7 @@ use Rattle.logline.specs.Spelling.{decimal, hex, rowLine, Wrote}
 use Rattle.logline.proofs.Decimals.{length-decimal}
 use Rattle.logline.proofs.Writing.{length-hex, then}
 use Rattle.buffer.proofs.Splice.{length-region, splice-is, splice-nil}
-use Rattle.buffer.proofs.Lists.{map-append}
+use Rattle.buffer.proofs.Lists.{map-append, flat-append}
 use Rattle.entries.specs.Query.{Query}
 use Rattle.book.specs.Book.{Book, Sound, front}
 use Rattle.book.specs.Replies.{Result, searchNumber}
@@ -99,11 +99,6 @@ module _ (b : Book) (q : Query) where
       listed (matching-fits q b s) (searchNumber storeSize (front b) q) (ltb (length answer) (length rows * rowSize)) answer r e z
 
 -- ---- row lines written one after another
-
-flat-append : {A : Type 0} (xs ys : List (List A)) → flat (xs ++ ys) ≡ flat xs ++ flat ys
-unfolding flat
-flat-append [] ys = refl
-flat-append (x ∷ xs) ys = ap (λ (l : List _). x ++ l) (flat-append xs ys) ∙ sym (append-assoc x (flat xs) (flat ys))
 
 pub print-none : (out answer : List ℕ) → Wrote out 0 (flat (map rowLine (records rowSize 0 answer))) out 0
 unfolding records flat

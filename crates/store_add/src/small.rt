@@ -3,7 +3,7 @@ use rows::sizes::NODE_LIMIT;
 use store::front::ENTRY_ROOM;
 use store::front::FRONT_ROOM;
 use trie_add::add::add;
-use trie_read::sizes::FRONT_SIZE;
+use trie_read::sizes::HEAD_SIZE;
 use trie_read::sizes::LEAF_SIZE;
 ghost use mathlib.Core.Path.{_≡_};
 ghost use Prim.Native.Nat.{_+_, _*_, _≤_, _<_};
@@ -14,7 +14,7 @@ ghost use Rattle.book.specs.Front.{frontRoom, entryRoom};
 ghost use Rattle.store_add.specs.Small.{SmallGrown};
 
 // The most bytes that an addition takes beside those of the key.
-const GROWTH_SIZE: usize = FRONT_SIZE + LEAF_SIZE;
+const GROWTH_SIZE: usize = HEAD_SIZE + LEAF_SIZE;
 
 // Adds a key to the small trie, which has `used` bytes. Where there is no room for it, which no store of ours comes to, nothing is changed.
 pub(crate) fn add_small(

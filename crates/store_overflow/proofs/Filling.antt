@@ -29,7 +29,7 @@ use Rattle.entries.specs.Slots.{slotSize, slot, slotKey, shortPath}
 use Rattle.entries.proofs.Slots.{records-slots, length-slots}
 use Rattle.trie_sets.specs.Sets.{keysOf, shortPaths}
 use Rattle.trie_build.proofs.Entries.{entries-keys}
-use Rattle.gather.proofs.Putting.{all-both}
+use Rattle.buffer.proofs.Lists.{tested-append}
 use Rattle.book.specs.Front.{Front, frontRoom, entryRoom, need}
 use Rattle.book.specs.Tries.{Tries, every, levelTrie}
 use Rattle.book.specs.FromTries.{entriesOf, entriesIn}
@@ -90,7 +90,7 @@ unfolding flat
 fit-first f t g zero h = refl
 fit-first f t g (suc k) h =
     let own = keys-of-entries (numbered t k) (good-numbered f t g k (omega arith) .entries) .1 in
-    ap (all fitsRow) (entries-next k t) ∙ all-both fitsRow (flat (map entriesOf (upTo k t))) (entriesOf (numbered t k))
+    ap (all fitsRow) (entries-next k t) ∙ tested-append fitsRow (flat (map entriesOf (upTo k t))) (entriesOf (numbered t k))
     (fit-first f t g k (omega arith)) own
 
 -- ---- the level

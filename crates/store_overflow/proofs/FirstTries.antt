@@ -14,7 +14,7 @@ use Rattle.trie_theory.specs.Forest.{Forest}
 use Rattle.entries.specs.Slots.{slotSize, slot, shortPath}
 use Rattle.trie_read.specs.Shape.{part}
 use Rattle.gather.specs.Gathered.{Gathered}
-use Rattle.gather.proofs.Putting.{all-both}
+use Rattle.buffer.proofs.Lists.{tested-append}
 use Rattle.book.specs.Front.{Front}
 use Rattle.book.specs.Tries.{Tries}
 use Rattle.book.specs.FromTries.{entriesOf}
@@ -95,7 +95,7 @@ module _ (m l k from to out room n r : ℕ) (s s₁ s₂ : List ℕ) (p : PartOf
         long = omega (arith, length-append (a .bytes) (g .bytes), a .long, g .long);
         most = omega (arith, a .most, g .most);
         short = rw (records-append n r (a .bytes) (g .bytes) (a .long))
-            (all-both shortPath (records slotSize n (a .bytes)) (records slotSize r (g .bytes)) (a .short) (g .short));
+            (tested-append shortPath (records slotSize n (a .bytes)) (records slotSize r (g .bytes)) (a .short) (g .short));
         entries = λ f t em el good h. rw (entries-next k t) (those f t em el good h);
       }
 
