@@ -6,6 +6,7 @@ use gather::key::enter;
 use rows::sizes::NODE_LIMIT;
 use rows::sizes::RECORD_SIZE;
 use rows::sizes::ROW_SIZE;
+use trie_read::sizes::HEAD_SIZE;
 ghost use mathlib.Core.Path.{_≡_};
 ghost use mathlib.Core.Bool.{cond};
 ghost use Prim.Native.Nat.{_+_, _*_, _<_, _≤_};
