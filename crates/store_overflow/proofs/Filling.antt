@@ -5,7 +5,6 @@ use mathlib.Core.Bool.{true}
 use mathlib.Core.List.{List, [], _∷_, _++_, append-assoc, map}
 use native.Mathlib.Omega.{arith}
 use native.Mathlib.Nat.{mul-assoc, mul-le-mul}
-use native.Mathlib.Numerals.{add-one}
 use lib.Pow.{pow-pos}
 use lib.ListN.{length, drop, replicate, length-append, length-replicate}
 use lib.Seq.{take-at, take-all}
@@ -95,9 +94,9 @@ fit-first f t g (suc k) h =
 
 -- ---- the level
 
-module _ (m l τ j x n : ℕ) (e : Entry) (short : length (e .path) ≤ pathLimit) (twenty : length (e .reference) ≡ referenceSize)
+module _ (m l τ j k x n : ℕ) (e : Entry) (short : length (e .path) ≤ pathLimit) (twenty : length (e .reference) ≡ referenceSize)
     (z : Sized m l j x) (s s₁ s₂ : List ℕ)
-    (room : need m l ≤ length s) (low : j < l) (g : FirstGathered m l (j + 1) (slotsAt (frontRoom + entryRoom * x) x) (x - 1) s s₁ n)
+    (room : need m l ≤ length s) (low : j < l) (g : FirstGathered m l k (slotsAt (frontRoom + entryRoom * x) x) (x - 1) s s₁ n)
     (put : s₂ ≡ splice s₁ (slotsAt (frontRoom + entryRoom * x) x + n * slotSize) (slot e)) where
   abbrev base : ℕ
   base = frontRoom + entryRoom * x
@@ -162,13 +161,13 @@ module _ (m l τ j x n : ℕ) (e : Entry) (short : length (e .path) ≤ pathLimi
   FirstFrom fs = let es = flat (map entriesOf fs) in length es ≤ x - 1 → (n ≡ length es) × (g .bytes ≡ flat (map slot es))
 
   -- of good tries: the level of their entries and e
-  of-entries : (f : Front) (t : Tries) → f .M ≡ m → f .L ≡ l → GoodTries f t → Holds s f t → fitsRow e ≡ true → length (entriesIn j t) + 1 ≤ m * 2 ^ j
+  of-entries : k ≡ suc j → (f : Front) (t : Tries) → f .M ≡ m → f .L ≡ l → GoodTries f t → Holds s f t → fitsRow e ≡ true → length (entriesIn j t) + 1 ≤ m * 2 ^ j
       → level-bytes ≡ padded (entryRoom * x) (encode (levelTrie τ (entriesIn j t ++ (e ∷ []))))
   unfolding levelBytes levelTrie entriesIn
-  of-entries f t em el good h fit most =
+  of-entries here f t em el good h fit most =
       let es = flat (map entriesOf (every j t)) in
       let xs = es ++ (e ∷ []) in
-      let first : FirstFrom (every j t) = subst FirstFrom (ap (λ (k : ℕ). upTo k t) (add-one j)) (g .entries f t em el good h) in
+      let first : FirstFrom (every j t) = subst FirstFrom (ap (λ (i : ℕ). upTo i t) here) (g .entries f t em el good h) in
       let r = first (omega (arith, z .is)) in
       let rows = fit-first f t good (suc j) (omega (arith, el, low)) in
       let all-slots : records slotSize (n + 1) (drop slots s₂) ≡ map slot xs =
@@ -177,13 +176,13 @@ module _ (m l τ j x n : ℕ) (e : Entry) (short : length (e .path) ≤ pathLimi
       ap (λ (rs : List (List ℕ)). padded (entryRoom * x) (encode (levelOf 2 τ (map slotKey (sorted recordOrder rs))))) all-slots
       ∙ ap (λ (ks : List Key). padded (entryRoom * x) (encode (levelOf 2 τ ks))) (slots-keys xs (all-snoc fitsRow es e rows fit))
 
-  pub filled : (s₃ s₄ : List ℕ) → s₃ ≡ splice s₂ base level-bytes → s₄ ≡ splice s₃ frontRoom zeros → Filled m l τ j e s s₄
-  filled s₃ s₄ a b =
+  pub filled : k ≡ suc j → (s₃ s₄ : List ℕ) → s₃ ≡ splice s₂ base level-bytes → s₄ ≡ splice s₃ frontRoom zeros → Filled m l τ j e s s₄
+  filled here s₃ s₄ a b =
       record {
         bytes = zeros ++ level-bytes;
         is = wrote s₃ s₄ a b;
         long = omega (arith, length-append zeros level-bytes, length-zeros, length-bytes, z .room);
         entries = λ f t em el good h fit most.
-            ap (λ (b : List ℕ). zeros ++ b) (of-entries f t em el good h fit most)
+            ap (λ (b : List ℕ). zeros ++ b) (of-entries here f t em el good h fit most)
             ∙ ap (λ (k : ℕ). replicate k 0 ++ padded k (encode (levelTrie τ (entriesIn j t ++ (e ∷ []))))) (z .room);
       }

@@ -1,6 +1,7 @@
 -- Gathered, put, merged, cleared. Assumes nothing.
 use borrow.Author.Needs.{needs}
 use native.Mathlib.Omega.{arith}
+use native.Mathlib.Numerals.{add-one}
 use Prim.Native.Nat.{_*_}
 use Rattle.store_overflow.specs.Steps.{entry}
 use Rattle.store_overflow.proofs.LevelBytes.{fewer-short}
@@ -34,7 +35,7 @@ merge-requires c κs =
     let p = c .before .before .before .before .before .before .before .before .before .before .before .before .before .pre in
     let z = size (c .before .before .before .before .before .before .before .before .before) in
     let g = c .before .before .before .before .before .before .before .gather-first .ensures in
-    let short = short-slots _ _ (a .tau) _ _ _ (entry (a .path .now) (a .value) (a .reference .now)) (p .5) (p .6) z _ _ _ (p .4) (p .3) (c .before .before .before .before .before .before .before .gather-first .ensures) (c .before .before .before .put-slot .ensures) in (
+    let short = short-slots _ _ (a .tau) (a .j) _ _ _ (entry (a .path .now) (a .value) (a .reference .now)) (p .5) (p .6) z _ _ _ (p .4) (p .3) (c .before .before .before .before .before .before .before .gather-first .ensures) (c .before .before .before .put-slot .ensures) in (
       omega (arith, g .most, z .some),
       z .most,
       omega (arith, z .fits, p .4, c .before .before .before .before .before .before .before .gather-first .kept .0, c .before .before .before .put-slot .kept .0),
@@ -46,7 +47,7 @@ returns c =
     let a = c .before .before .before .before .before .before .before .before .before .before .before .before .before .before .before .before .before .before .before .before .args in
     let p = c .before .before .before .before .before .before .before .before .before .before .before .before .before .before .before .before .before .before .before .before .pre in
     let z = size (c .before .before .before .before .before .before .before .before .before .before .before .before .before .before .before .before) in
-    filled _ _ (a .tau) _ _ _ (entry (a .path .now) (a .value) (a .reference .now)) (p .5) (p .6) z _ _ _ (p .4) (p .3) (c .before .before .before .before .before .before .before .before .before .before .before .before .before .before .gather-first .ensures) (c .before .before .before .before .before .before .before .before .before .before .put-slot .ensures) _ _ (c .before .before .before .before .before .before .merge .ensures) (c .before .before .clear .ensures)
+    filled _ _ (a .tau) (a .j) _ _ _ (entry (a .path .now) (a .value) (a .reference .now)) (p .5) (p .6) z _ _ _ (p .4) (p .3) (c .before .before .before .before .before .before .before .before .before .before .before .before .before .before .gather-first .ensures) (c .before .before .before .before .before .before .before .before .before .before .put-slot .ensures) (add-one (a .j)) _ _ (c .before .before .before .before .before .before .merge .ensures) (c .before .before .clear .ensures)
 
 pub fill-level-spec : {M : Type 1} → statement M
 fill-level-spec =
