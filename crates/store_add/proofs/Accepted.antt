@@ -1,13 +1,13 @@
 -- What an addition that no check refuses has, in figures. Assumes nothing.
-use mathlib.Core.Path.{_≡_, refl, sym, ap, _∙_}
-use mathlib.Core.Bool.{Bool, true, false, not, _&&_, _||_, true≢false}
-use Prim.Native.Nat.{ℕ, zero, suc, _+_, _*_, _-_, _^_, _≤_, _<_}
+use mathlib.Core.Path.{_≡_, refl}
+use mathlib.Core.Bool.{Bool, true, false, not, _||_, true≢false}
+use Prim.Native.Nat.{ℕ, suc, _+_, _*_, _-_, _^_, _≤_, _<_}
 use mathlib.Core.List.{List, [], _∷_}
 use native.Mathlib.Omega.{arith}
 use native.Mathlib.Nat.{mul-le-mul}
 use lib.Pow.{pow-pos}
 use lib.ListN.{length, getD}
-use lib.Dec.{eqb, ltb}
+use lib.Dec.{ltb}
 use borrow.Author.Tests.{eqb-true, eqb-false, ltb-false, lt-ltb, not-false}
 use Rattle.buffer.specs.Lists.{all}
 use Rattle.buffer.specs.Numbers.{byte}
@@ -19,7 +19,7 @@ use Rattle.book.specs.Book.{formed}
 use Rattle.book.specs.Replies.{addNumber}
 use Rattle.book.specs.Calls.{add, typed}
 use Rattle.book.proofs.Front.{Within, within}
-use Rattle.book.proofs.Numbers.{Acceptable, acceptable}
+use Rattle.book.proofs.Numbers.{acceptable}
 use Rattle.book.proofs.Keys.{as-formed, path-short}
 use Rattle.store_add.specs.Ready.{Ready}
 use Rattle.store_add.proofs.Checks.{capacity-most}

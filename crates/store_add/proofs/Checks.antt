@@ -1,21 +1,17 @@
 -- Check after check. Assumes nothing.
-use mathlib.Core.Path.{_≡_, refl, sym, ap, _∙_}
-use mathlib.Core.Bool.{Bool, true, false, not}
+use mathlib.Core.Path.{_≡_}
 use Prim.Native.Nat.{ℕ, _+_, _-_, _*_, _^_, _≤_, _<_}
 use mathlib.Core.List.{List}
 use native.Mathlib.Omega.{arith}
 use native.Mathlib.Nat.{mul-le-mul}
 use lib.Pow.{pow-mono}
 use lib.ListN.{length}
-use lib.Dec.{eqb}
 use borrow.Author.Tests.{eq-eqb, ne-eqb}
-use Rattle.matcher.specs.Form.{pathForm, pathNumber}
-use Rattle.matcher.specs.declared.form.Form.{Form}
+use Rattle.matcher.specs.Form.{pathForm}
 use Rattle.matcher.specs.declared.form.Form.the-variants.{Fine, TooLong, Malformed}
 use Rattle.rows.specs.Sizes.{referenceSize}
-use Rattle.book.specs.Front.{Front, noStore, capacity, full}
+use Rattle.book.specs.Front.{capacity, full}
 use Rattle.book.specs.Replies.{addNumber}
-use Rattle.store_overflow.specs.Steps.{entry}
 use Rattle.store_add.specs.Checked.{Checked}
 
 -- a store has at most 2^20 entries

@@ -16,7 +16,6 @@ use Rattle.trie_theory.specs.Sound.{Ascending}
 use Rattle.trie_theory.specs.Size.{height}
 use Rattle.trie_theory.specs.Encode.{Regular, encode}
 use Rattle.trie_add.specs.Added.{Added, growthLimit}
-use Rattle.trie_add.specs.Replaced.{Replaced}
 use Rattle.book.specs.Front.{frontRoom, entryRoom}
 use Rattle.book.specs.Image.{padded}
 use Rattle.store_add.specs.Small.{SmallGrown}

@@ -1,7 +1,7 @@
 -- The held number written, and the small trie and the held number written. Assumes nothing.
-use mathlib.Core.Path.{_≡_, refl, sym, ap, _∙_, subst}
-use Prim.Native.Nat.{ℕ, _+_, _*_, _-_, _^_, _≤_, _<_}
-use mathlib.Core.List.{List, map}
+use mathlib.Core.Path.{_≡_, sym, ap, _∙_}
+use Prim.Native.Nat.{ℕ, _+_, _*_, _-_, _≤_, _<_}
+use mathlib.Core.List.{List}
 use native.Mathlib.Omega.{arith}
 use lib.ListN.{length, drop, length-map}
 use Rattle.buffer.specs.Numbers.{bytesOf, number}
@@ -14,13 +14,13 @@ use Rattle.trie_theory.specs.SmallTrie.{added}
 use Rattle.trie_theory.specs.Encode.{encode}
 use Rattle.trie_theory.proofs.TrieOf.{figures}
 use Rattle.entries.specs.Keys.{entryKey}
-use Rattle.book.specs.Front.{Front, frontRoom, entryRoom, frontOf, need}
+use Rattle.book.specs.Front.{frontRoom, entryRoom, frontOf, need}
 use Rattle.book.specs.Book.{Book, Sound, held, front, put}
 use Rattle.book.specs.Digits.{small}
 use Rattle.book.specs.Tries.{tries}
-use Rattle.book.specs.Image.{image, padded, storeOf, Holds}
-use Rattle.book.proofs.Regions.{smallAt, heldAt, holds-small}
-use Rattle.book.proofs.Image.{length-padded, length-image, image-fits, small-formed, small-trie-of}
+use Rattle.book.specs.Image.{image, padded, Holds}
+use Rattle.book.proofs.Regions.{smallAt, heldAt}
+use Rattle.book.proofs.Image.{length-image, image-fits, small-formed, small-trie-of}
 use Rattle.book.proofs.Writes.{as-held, write-within, add-small}
 use Rattle.store.proofs.Places.{region-within}
 

@@ -2,7 +2,7 @@
 use mathlib.Core.Path.{_≡_, refl, sym, ap, _∙_, subst}
 use mathlib.Core.Bool.{Bool, true, false, _||_}
 use Prim.Native.Nat.{ℕ, zero, suc, _+_, _-_, _≤_}
-use mathlib.Core.List.{List, [], _∷_, _++_}
+use mathlib.Core.List.{List, [], _∷_}
 use native.Mathlib.Omega.{arith}
 use native.Mathlib.Numerals.{add-one}
 use Rattle.buffer.specs.Lists.{any}
@@ -13,8 +13,7 @@ use Rattle.trie_theory.specs.Dimensions.{root}
 use Rattle.trie_theory.specs.Lookup.{member}
 use Rattle.trie_theory.specs.Encode.{Regular, encode}
 use Rattle.trie_read.specs.Shape.{part}
-use Rattle.book.specs.Front.{Front}
-use Rattle.book.specs.Tries.{Tries, every}
+use Rattle.book.specs.Tries.{Tries}
 use Rattle.store.specs.Parts.{numbered, upTo, PartOf}
 use Rattle.store.proofs.Places.{upTo-next, good-numbered, good-regular}
 use Rattle.store_add.specs.Placed.{InTrie, InFirst, LookedUp}

@@ -1,5 +1,5 @@
 -- An entry put into the small trie. Assumes nothing.
-use mathlib.Core.Path.{_≡_, refl, sym, ap, _∙_, subst}
+use mathlib.Core.Path.{_≡_, sym, ap, _∙_, subst}
 use Prim.Native.Nat.{ℕ, _+_, _*_, _-_, _^_, _%_, _≤_, _<_}
 use mathlib.Core.Bool.{true}
 use mathlib.Core.List.{List, [], _∷_, _++_}
@@ -8,7 +8,7 @@ use native.Mathlib.Nat.{mod-lt}
 use lib.ListN.{length, drop, length-append}
 use Rattle.buffer.specs.Lists.{all}
 use Rattle.buffer.specs.Numbers.{bytesOf}
-use Rattle.buffer.specs.Splice.{splice, region}
+use Rattle.buffer.specs.Splice.{splice}
 use Rattle.buffer.proofs.Digits.{length-bytesOf}
 use Rattle.buffer.proofs.Lists.{all-head, all-right, all-tested}
 use Rattle.buffer.proofs.Splice.{length-splice, drop-after}
@@ -21,7 +21,7 @@ use Rattle.trie_theory.specs.SmallTrie.{added}
 use Rattle.trie_theory.specs.Encode.{encode}
 use Rattle.trie_add.specs.Added.{growthLimit}
 use Rattle.entries.specs.Keys.{entryKey}
-use Rattle.book.specs.Front.{frontRoom, entryRoom, need}
+use Rattle.book.specs.Front.{entryRoom, need}
 use Rattle.book.specs.Digits.{small}
 use Rattle.book.specs.Book.{Book, Sound, held, front, put, formed}
 use Rattle.book.specs.Tries.{tries}

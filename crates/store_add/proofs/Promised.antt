@@ -1,6 +1,6 @@
 -- The three outcomes of an addition: refused, there already, put in. Assumes nothing.
 use mathlib.Core.Path.{_≡_, refl, sym, ap, _∙_, subst}
-use mathlib.Core.Logic.{_⊎_, inl, inr}
+use mathlib.Core.Logic.{inl, inr}
 use mathlib.Core.Bool.{Bool, true, false}
 use Prim.Native.Nat.{ℕ, zero, suc, _+_, _≤_}
 use mathlib.Core.List.{List, [], _∷_, _++_}
@@ -17,15 +17,15 @@ use Rattle.trie_theory.specs.Lookup.{member}
 use Rattle.entries.specs.Keys.{entryKey}
 use Rattle.trie_read.specs.Shape.{keyOf}
 use Rattle.book.specs.Front.{Front, frontOf, need}
-use Rattle.book.specs.Book.{Book, Sound, held, front, put, has}
+use Rattle.book.specs.Book.{Book, held, front, put}
 use Rattle.book.specs.Tries.{tries, every}
 use Rattle.book.specs.FromTries.{hasIn}
-use Rattle.book.specs.Replies.{Reply, reply, addNumber}
+use Rattle.book.specs.Replies.{reply, addNumber}
 use Rattle.book.specs.Calls.{add, typed}
 use Rattle.book.specs.Step.{step, admit}
 use Rattle.book.specs.Image.{image, HoldsBook}
-use Rattle.book.specs.Promises.{Added, Adds}
-use Rattle.book.proofs.Numbers.{Acceptable, acceptable}
+use Rattle.book.specs.Promises.{Adds}
+use Rattle.book.proofs.Numbers.{acceptable}
 use Rattle.book.proofs.Book.{put-sound}
 use Rattle.book.proofs.Image.{image-fits}
 use Rattle.book.proofs.Good.{tries-good}

@@ -3,7 +3,6 @@ use Prim.Native.Nat.{ℕ}
 use mathlib.Core.Path.{_≡_}
 use mathlib.Core.Bool.{false}
 use mathlib.Core.List.{List}
-use Rattle.rows.specs.Entry.{Entry}
 use Rattle.book.specs.Front.{Front, noStore}
 use Rattle.book.specs.Replies.{addNumber}
 use Rattle.store_overflow.specs.Steps.{entry}

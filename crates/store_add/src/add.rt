@@ -19,13 +19,13 @@ ghost use Rattle.store_add.specs.Ready.{Ready};
 // A path with its end byte.
 const ENDED_LIMIT: usize = PATH_LIMIT + 1;
 
-// A refused addition has two zeros beside its number.
-fn refused(number: u32) -> Reply
-    ensures { λ r. ⌜ said r ≡ reply number 0 0 ⌝ }
+// The second value is zero in every reply, and in a refusal the first is too.
+fn answer(number: u32, first: usize) -> Reply
+    ensures { λ r. ⌜ said r ≡ reply number first 0 ⌝ }
 {
     Reply {
         number,
-        first: 0,
+        first: first as u64,
         second: 0,
     }
 }
@@ -51,11 +51,7 @@ fn admit(
     copy_from(&mut ended, 0, path);
     let n = path.len() + 1;
     if has_entry(store, m, l, &bytes, &ended[0..n], reference) {
-        return Reply {
-            number: 100,
-            first: held as u64,
-            second: 0,
-        };
+        return answer(100, held);
     }
     put_entry(
         store,
@@ -69,11 +65,7 @@ fn admit(
         &bytes,
         &ended[0..n],
     );
-    Reply {
-        number: 0,
-        first: (held + 1) as u64,
-        second: 0,
-    }
+    answer(0, held + 1)
 }
 
 // Adds an entry: a path, a value and a reference. Document 01's numbers, in their sequence.
@@ -84,7 +76,7 @@ pub fn add(store: &mut [u8], path: &[u8], value: u64, reference: &[u8]) -> Reply
     let opened = open(store);
     match opened {
         Opened::Missing => {
-            return refused(4);
+            return answer(4, 0);
         }
         Opened::Store(front) => {
             let m = front.m;
@@ -94,7 +86,7 @@ pub fn add(store: &mut [u8], path: &[u8], value: u64, reference: &[u8]) -> Reply
             if number == 0 {
                 return admit(store, m, l, front.tau, held, path, value, reference);
             }
-            return refused(number);
+            return answer(number, 0);
         }
     }
 }

@@ -3,7 +3,6 @@ use buffer::sizes::REFERENCE_SIZE;
 use matcher::form::Form;
 use matcher::form::check_path;
 use store::front::power;
-ghost use mathlib.Core.Path.{_≡_};
 ghost use Prim.Native.Nat.{_*_, _^_, _≤_, _<_};
 ghost use Rattle.store_add.specs.Checked.{Checked};
 

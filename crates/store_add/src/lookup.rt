@@ -1,17 +1,10 @@
 // Looking an entry up in each trie of a store.
 use store::part::trie_part;
 use trie_read::lookup::contains;
-ghost use mathlib.Core.Path.{_≡_};
 ghost use Prim.Native.Nat.{_≤_};
 ghost use lib.ListN.{length};
-ghost use Rattle.trie_theory.specs.Dimensions.{root};
-ghost use Rattle.trie_theory.specs.Lookup.{member};
 ghost use Rattle.trie_read.specs.Shape.{keyOf};
-ghost use Rattle.book.specs.Front.{Front, need};
-ghost use Rattle.book.specs.Tries.{Tries};
-ghost use Rattle.book.specs.Good.{GoodTries};
-ghost use Rattle.book.specs.Image.{Holds};
-ghost use Rattle.store.specs.Parts.{numbered};
+ghost use Rattle.book.specs.Front.{need};
 ghost use Rattle.store_add.specs.Placed.{InTrie, LookedUp};
 
 // Does trie k have the entry?

@@ -1,7 +1,7 @@
 -- Check after check. Assumes nothing.
 use borrow.Author.Needs.{needs}
 use native.Mathlib.Omega.{arith}
-use mathlib.Core.Path.{_≡_, sym, _∙_}
+use mathlib.Core.Path.{sym, _∙_}
 use Rattle.store.proofs.Powers.{product-most}
 use Rattle.store_add.proofs.Checks.{capacity-most, too-long, malformed, not-twenty, is-full, has-space}
 use Rattle.store_add.proofs.check.refusal.Statement.{statement}
