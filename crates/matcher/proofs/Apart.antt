@@ -15,7 +15,7 @@ use Rattle.matcher.specs.Labels.{upToSlash, labelsOf}
 use Rattle.matcher.specs.Form.{apart, pathLabel, formedPath}
 use Rattle.matcher.specs.Reach.{beginsPath}
 use Rattle.buffer.proofs.Tests.{and-false}
-use Rattle.matcher.proofs.Parts.{step, no-items}
+use Rattle.glob.proofs.Parts.{step, no-items}
 
 -- c may stand before next
 abbrev pub mayStand : ℕ → ℕ → ℕ → Bool

@@ -16,7 +16,7 @@ use Rattle.matcher.specs.Fit.{afterSome, fit, fitsLabel, fitLabels}
 use Rattle.matcher.specs.Reach.{beginsLabel, beginsLabels}
 use Rattle.buffer.proofs.Tests.{not-both, and-left, and-right, and-both, or-right, or-first, or-second}
 use Rattle.buffer.proofs.Lists.{tested-append, tested-left}
-use Rattle.matcher.proofs.Trials.{now-some}
+use Rattle.glob.proofs.Trials.{now-some}
 
 -- a byte of a pattern's label
 abbrev patternByte : ℕ → Bool

@@ -16,7 +16,7 @@ use Rattle.matcher.specs.Form.{apart, formedPath}
 use Rattle.matcher.specs.Reach.{beginsPath}
 use Rattle.buffer.proofs.Tests.{not-both, and-left, and-right, and-both}
 use Rattle.buffer.proofs.Lists.{tested-left}
-use Rattle.matcher.proofs.Parts.{last-place}
+use Rattle.glob.proofs.Parts.{last-place}
 use Rattle.matcher.proofs.Apart.{mayStand, lastByte, formed-bytes, ends-label}
 use Rattle.matcher.proofs.Goes.{filler, x-byte}
 use Rattle.matcher.proofs.Joined.{byte-not}
