@@ -1,12 +1,11 @@
 -- THE NODES ABOVE A KEY'S LEAF, in a sound trie, are those of its walk: a key goes on with the strings of the nodes above it, and with those of no
 -- sibling before them, since their branching bytes differ. Assumes nothing.
-use Prim.Native.Nat.{ℕ, zero, suc, _+_}
+use Prim.Native.Nat.{ℕ, suc, _+_}
 use mathlib.Core.Path.{_≡_, refl, sym, ap, ap₂, _∙_}
-use mathlib.Core.Bool.{Bool, true, false, cond, _&&_}
+use mathlib.Core.Bool.{false, cond, _&&_}
 use mathlib.Core.List.{List, [], _∷_, _++_, append-assoc, append-nil, map}
 use native.Mathlib.Omega.{arith}
 use lib.ListN.{length}
-use lib.Dec.{eqb}
 use borrow.Author.Tests.{eq-eqb}
 use Rattle.buffer.specs.Lists.{All, nil, cons, pick, flat}
 use Rattle.buffer.proofs.Lists.{all-head, all-tail, all-imp, all-both, all-append, all-map, all-pick, pick-append, map-append}
@@ -14,7 +13,7 @@ use Rattle.buffer.proofs.Tests.{not-true}
 use Rattle.trie_theory.specs.Forest.{Strings, Key, Forest, none, leaf, inner, join, under, keys, tops}
 use Rattle.trie_theory.specs.Strings.{begins, goesOn}
 use Rattle.trie_theory.specs.Dimensions.{Above, below, branching}
-use Rattle.trie_theory.specs.Sound.{Starts, Wide, Node, Sound}
+use Rattle.trie_theory.specs.Sound.{Node, Sound}
 use Rattle.trie_theory.specs.Encode.{Regular}
 use Rattle.trie_theory.specs.Walk.{Step, stepAt, walk}
 use Rattle.trie_theory.proofs.Prefix.{From, goesOn-prefixes, prefixes-goesOn}
@@ -83,7 +82,7 @@ way-step n way k amount kind steps x =
     let z : n + suc (length steps) ≡ n + 1 + length steps = omega arith in
     ap₂ (λ (i : ℕ) (w : List ℕ). keyRecord i w x) z (sym (append-assoc way (nodeOf k kind) (flat (map stepBytes steps))))
 
-map-all : {A B : Type 0} {f g : A → B} {xs : List A} → All (λ x. f x ≡ g x) xs → map f xs ≡ map g xs
+pub map-all : {A B : Type 0} {f g : A → B} {xs : List A} → All (λ x. f x ≡ g x) xs → map f xs ≡ map g xs
 map-all nil = refl
 map-all (cons h a) = ap₂ _∷_ h (map-all a)
 

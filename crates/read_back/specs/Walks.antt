@@ -2,7 +2,7 @@
 use Prim.Native.Nat.{ℕ, suc, _+_, _-_, _*_, _<_, _≤_}
 use mathlib.Core.Path.{_≡_}
 use mathlib.Core.Bool.{Bool, true}
-use mathlib.Core.List.{List, [], _∷_, _++_, map}
+use mathlib.Core.List.{List, [], _++_, map}
 use lib.ListN.{length, take}
 use Rattle.buffer.specs.Lists.{pick}
 use Rattle.rows.specs.Sizes.{valueSize, nodeLimit, recordSize}

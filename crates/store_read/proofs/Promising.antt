@@ -1,20 +1,18 @@
 -- What a reading back promises: with 4, of a level that there is not, and of a level that is listed. Assumes nothing.
-use mathlib.Core.Path.{_≡_, refl, sym, ap, ap₂, _∙_}
+use mathlib.Core.Path.{_≡_, refl, sym, ap, _∙_}
 use mathlib.Core.Bool.{Bool, true, false, not, _&&_, _||_}
 use mathlib.Core.Logic.{inl}
 use Prim.Native.Nat.{ℕ, suc, _+_, _≤_, _<_}
-use mathlib.Core.List.{List, [], _∷_, map}
+use mathlib.Core.List.{List, []}
 use native.Mathlib.Omega.{arith}
 use native.Mathlib.Numerals.{add-one}
-use lib.ListN.{length, take, drop, length-take, length-drop}
+use lib.ListN.{length, length-take, length-drop}
 use lib.Dec.{ltb}
 use borrow.Author.Tests.{lt-ltb, le-ltb, ltb-false, not-false}
-use Rattle.buffer.specs.Lists.{All, all, count, flat}
-use Rattle.buffer.specs.Splice.{splice}
+use Rattle.buffer.specs.Lists.{All, all, flat}
 use Rattle.buffer.proofs.Lists.{all-imp, all-tested, all-test}
 use Rattle.buffer.proofs.Splice.{splice-nil}
 use Rattle.buffer.proofs.Tests.{and-left, and-right, and-both, or-left-false, or-right-false}
-use Rattle.rows.specs.Sizes.{recordSize}
 use Rattle.rows.specs.Entry.{Entry, fitsRow}
 use Rattle.rows.proofs.Sorted.{count-all}
 use Rattle.trie_theory.specs.Forest.{Key, Forest, keys}
@@ -34,7 +32,7 @@ use Rattle.book.specs.Calls.{readLevel}
 use Rattle.book.specs.Step.{fill, list, step}
 use Rattle.book.specs.Image.{HoldsBook}
 use Rattle.book.specs.FromTries.{keyEntry, readTries}
-use Rattle.book.specs.Promises.{Accepted, ReadsLevel}
+use Rattle.book.specs.Promises.{ReadsLevel}
 use Rattle.book.proofs.Front.{within}
 use Rattle.book.proofs.Numbers.{read-short}
 use Rattle.book.proofs.OneCall.{front-read}
@@ -47,7 +45,6 @@ use Rattle.store.specs.Opening.{Reads}
 use Rattle.store.specs.Parts.{numbered, PartOf}
 use Rattle.store.specs.declared.front.Front as Code
 use Rattle.store.proofs.Places.{good-regular}
-use Rattle.read_back.specs.Readings.{TrieBytes}
 use Rattle.store_read.specs.Listings.{OfEntry, Level, readTrie, Listed}
 
 -- ---- what a store is that is not 4

@@ -1,6 +1,6 @@
 -- The records of a trie, sorted, in the answer; and whether they have room there. Assumes nothing.
 use mathlib.Core.Path.{_≡_, refl, sym, ap, ap₂, _∙_}
-use mathlib.Core.Bool.{Bool, true, false}
+use mathlib.Core.Bool.{true, false}
 use mathlib.Core.Logic.{inl, inr}
 use Prim.Native.Nat.{ℕ, _+_, _*_, _/_, _≤_, _<_, min}
 use mathlib.Core.List.{List, [], _∷_, _++_, append-nil, map}
@@ -15,7 +15,7 @@ use Rattle.buffer.proofs.Lists.{all-left, all-tested, all-test}
 use Rattle.buffer.proofs.Tests.{and-both}
 use Rattle.buffer.proofs.Splice.{length-splice, region-at, splice-over, drop-after}
 use Rattle.rows.specs.Sizes.{recordSize}
-use Rattle.rows.specs.Entry.{Entry, row, fitsRow}
+use Rattle.rows.specs.Entry.{Entry, fitsRow}
 use Rattle.rows.specs.Order.{recordOrder, entryOrder}
 use Rattle.rows.specs.Sorted.{sorted}
 use Rattle.rows.specs.Records.{records}
@@ -28,10 +28,10 @@ use Rattle.entries.specs.Keys.{entryKey}
 use Rattle.gather.specs.KeySlots.{keyRow}
 use Rattle.gather.proofs.Filling.{entry-row}
 use Rattle.book.specs.Records.{walkBytes, recordOf}
-use Rattle.book.specs.Replies.{Reply, reply, result}
+use Rattle.book.specs.Replies.{reply, result}
 use Rattle.book.specs.Step.{fill, list}
 use Rattle.book.specs.FromTries.{keyEntry, entriesOf}
-use Rattle.book.specs.Promises.{Accepted, NoRoom}
+use Rattle.book.specs.Promises.{Accepted}
 use Rattle.read_back.specs.Readings.{isRecord, trieRecord, TrieRead}
 use Rattle.store_read.specs.Listings.{OfEntry, Level, readTrie, Overfull, Filled, Listed}
 

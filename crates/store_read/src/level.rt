@@ -4,7 +4,6 @@ use store::front::Opened;
 use store::front::open;
 use store::part::trie_part;
 use store::reply::Reply;
-ghost use mathlib.Core.Path.{_≡_};
 ghost use Rattle.book.specs.Promises.{ReadsLevel};
 ghost use Rattle.store.specs.Said.{said};
 

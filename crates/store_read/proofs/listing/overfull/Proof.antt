@@ -9,9 +9,9 @@ pub overfull-spec : {M : Type 1} → statement M
 overfull-spec =
     tie.close
     (tie.spec
-    (λ c. held-room _ _ _ (c .if1 .taken))
+    (λ c. held-room _ _ _ (omega arith))
     (λ c. search needs)
     (λ c κs. search needs)
-    (λ c. read-room _ _ (c .before .before .read-trie .ensures) (c .if2 .taken))
+    (λ c. read-room _ _ (c .before .before .read-trie .ensures) (omega arith))
     (λ c κs. search needs)
     (λ c. read-over _ _ (c .before .before .before .read-trie .ensures) _ (omega arith) (omega arith) (c .least .ensures)))
