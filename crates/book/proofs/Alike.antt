@@ -145,9 +145,9 @@ module _ (b b′ : Book) (same : Same b b′) (e : Entry) (s : Sound b) (s′ : 
       let now : List ℕ → ℕ → ℕ → ℕ → List ℕ = λ i m t n.
       splice (splice i smallAt (zeros (entryRoom * m * 2 ^ j) ++ padded (entryRoom * m * 2 ^ j) (encode (levelTrie t xs)))) heldAt (bytesOf 4 (n + 1)) in
       let gathered : entriesIn j (tries b) ≡ entriesIn j (tries b′) = unfold entriesIn in ap (λ (fs : List Forest). flat (map entriesOf fs)) (same-every same j (let k = z .below in omega arith)) in
-      sym (add-level b e s p f j (z .below) h (z .empty) (z .others) xs (λ t. refl))
+      sym (add-level b e s f j (z .below) h (z .empty) (z .others) xs (λ t. refl))
       ∙ (λ i. now (image-same b b′ same i) (m-same b b′ same i) (t-same b b′ same i) (held-same b b′ same i))
-      ∙ add-level b′ e s′ p′ f j l′ h′ (ap (digit j) (sym r) ∙ z .empty) (λ i k. ap (digit i) (sym r) ∙ z .others i k) xs (λ t. ap (λ (l : List Entry). count t (l ++ (e ∷ []))) gathered)
+      ∙ add-level b′ e s′ f j l′ h′ (ap (digit j) (sym r) ∙ z .empty) (λ i k. ap (digit i) (sym r) ∙ z .others i k) xs (λ t. ap (λ (l : List Entry). count t (l ++ (e ∷ []))) gathered)
 
   pub put-same : image (put e b) ≡ image (put e b′)
   put-same = go (ltb (length (small (b .M) (b .entries)) + 1) (b .M)) refl

@@ -4,6 +4,7 @@ pub mod Overflow
 pub mod Numbers
 pub mod Book
 pub mod Keys
+pub mod EntryKeys
 pub mod Image
 pub mod OneCall
 pub mod Demand3

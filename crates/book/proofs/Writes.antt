@@ -4,8 +4,8 @@ use mathlib.Core.Path.{_≡_, refl, sym, ap, ap₂, _∙_}
 use mathlib.Core.Bool.{Bool, true}
 use mathlib.Core.List.{List, [], _∷_, _++_}
 use native.Mathlib.Omega.{arith}
-use native.Mathlib.Nat.{zero-add, mul-assoc, mul-one, pow-suc, pow-zero, suc-add}
-use lib.ListN.{length, take, replicate, length-append}
+use native.Mathlib.Nat.{mul-assoc, mul-one, pow-suc, pow-zero}
+use lib.ListN.{length, take, replicate, length-append, replicate-append-replicate}
 use lib.Seq.{take-at}
 use Rattle.buffer.specs.Lists.{count}
 use Rattle.buffer.specs.Numbers.{bytesOf}
@@ -23,7 +23,8 @@ use Rattle.book.specs.Book.{Book, Sound, held, front, put, formed}
 use Rattle.book.specs.Tries.{Tries, levelTrie, tries}
 use Rattle.book.specs.FromTries.{entriesIn}
 use Rattle.book.specs.Image.{padded, regions, storeOf, image, Holds}
-use Rattle.book.proofs.Image.{Fit, length-regions, length-top, image-fits}
+use Rattle.book.proofs.Book.{all-snoc}
+use Rattle.book.proofs.Image.{Fit, length-regions, length-top, formed-fit, image-fits}
 use Rattle.book.proofs.Regions.{write-through, splice-mid, above, above-same, regions-above, smallAt, heldAt, holding, write-small, write-held}
 use Rattle.book.proofs.Additions.{small-grows, levels-stay, small-emptied, lower-emptied, higher-stay, level-built}
 
@@ -60,10 +61,6 @@ write-lower f t t′ l n e h h′ same =
 abbrev pub zeros : ℕ → List ℕ
 zeros n = replicate n 0
 
-replicate-append : (m n : ℕ) → replicate m 0 ++ replicate n 0 ≡ replicate {A = ℕ} (m + n) 0
-replicate-append zero n = rw (zero-add n)
-replicate-append (suc m) n = rw (suc-add m n) (ap (λ (l : List ℕ). 0 ∷ l) (replicate-append m n))
-
 padded-none : (n : ℕ) → padded n (encode none) ≡ replicate n 0
 unfolding padded encode
 padded-none n = ap (λ (k : ℕ). replicate {A = ℕ} k 0) (let z : n - 0 ≡ n = omega arith in z)
@@ -75,29 +72,14 @@ regions-empty m (suc l) t s h =
     let x = entryRoom * m * 2 ^ l in
     let q : x + x ≡ entryRoom * m * 2 ^ suc l = (let d : entryRoom * m * 2 ^ suc l ≡ x * 2 = ap (λ (k : ℕ). entryRoom * m * k) (pow-suc 2 l) ∙ sym (mul-assoc (entryRoom * m) (2 ^ l) 2) in omega arith) in
     ap₂ _++_ (regions-empty m l t s (λ i k. h i (omega arith))) (ap (λ f. padded x (encode f)) (h l (omega arith)) ∙ padded-none x)
-    ∙ replicate-append x x ∙ ap (λ (k : ℕ). replicate {A = ℕ} k 0) q
+    ∙ replicate-append-replicate {A = ℕ} x x 0 ∙ ap (λ (k : ℕ). replicate {A = ℕ} k 0) q
 
 -- ---- ONE ENTRY MORE
 
-module _ (b : Book) (e : Entry) (s : Sound b) (s′ : Sound (put e b)) where
-  -- the numbers: held is one more
-  pub image-put : image (put e b) ≡ storeOf (holding (held b + 1) (front b)) (tries (put e b))
+module _ (b : Book) (e : Entry) (s : Sound b) where
+  held-more : image (put e b) ≡ storeOf (holding (held b + 1) (front b)) (tries (put e b))
   unfolding image
-  image-put = ap (λ (n : ℕ). storeOf (holding n (front b)) (tries (put e b))) (length-append (b .entries) (e ∷ []))
-
-  -- the small trie stays below M entries: it is written anew, and the held number
-  pub add-small : length (small (b .M) (b .entries)) + 1 < b .M
-      → splice (splice (image b) smallAt (padded (entryRoom * b .M) (encode (added root (tries b .small) (entryKey e))))) heldAt (bytesOf 4 (held b + 1))
-      ≡ image (put e b)
-  unfolding image
-  add-small h =
-      let t = tries b in
-      let t′ = tries (put e b) in
-      let g = small-grows b e h in
-      ap (λ (f : Forest). splice (splice (storeOf (front b) t) smallAt (padded (entryRoom * b .M) (encode f))) heldAt (bytesOf 4 (held b + 1))) (sym g)
-      ∙ ap (λ (x : List ℕ). splice x heldAt (bytesOf 4 (held b + 1))) (write-small (front b) t (image-fits b s) t′ (λ i l. levels-stay b e h i) (image-fits (put e b) s′ .small))
-      ∙ write-held (front b) t′ (held b + 1)
-      ∙ sym image-put
+  held-more = ap (λ (n : ℕ). storeOf (holding n (front b)) (tries (put e b))) (length-append (b .entries) (e ∷ []))
 
   -- It comes to M entries, and level j is the first empty one: zeros up to level j, and there the trie of all that was gathered, in whatever
   -- sequence, and the held number
@@ -112,11 +94,30 @@ module _ (b : Book) (e : Entry) (s : Sound b) (s′ : Sound (put e b)) where
       let t = tries b in
       let t′ = tries (put e b) in
       let fit = image-fits b s in
-      let fit′ = image-fits (put e b) s′ in
+      let fit′ = formed-fit (put e b) (s .limits) (all-snoc formed (b .entries) e (s .formed) f) in
       let lower : regions (b .M) j t′ ≡ replicate n 0 = regions-empty (b .M) j t′ (small-emptied b e j h empty others) (lower-emptied b e j h empty others) in
       let new : t′ .level j ≡ levelTrie (b .τ) xs = level-built b e j h empty others s f xs c in
       ap (λ (x : List ℕ). splice (splice (storeOf (front b) t) smallAt x) heldAt (bytesOf 4 (held b + 1))) (ap₂ (λ (x : List ℕ) (g : Forest). x ++ padded n (encode g)) (sym lower) (sym new))
       ∙ ap (λ (x : List ℕ). splice x heldAt (bytesOf 4 (held b + 1)))
       (write-lower (front b) t t′ (suc j) (b .L - suc j) (omega arith) (record { small = fit .small; levels = λ i l. fit .levels i (omega arith) }) (record { small = fit′ .small; levels = λ i l. fit′ .levels i (omega arith) }) (λ k l u. higher-stay b e j h empty others k l))
       ∙ write-held (front b) t′ (held b + 1)
-      ∙ sym image-put
+      ∙ sym held-more
+
+  module _ (s′ : Sound (put e b)) where
+    -- the numbers: held is one more
+    pub image-put : image (put e b) ≡ storeOf (holding (held b + 1) (front b)) (tries (put e b))
+    image-put = held-more
+
+    -- the small trie stays below M entries: it is written anew, and the held number
+    pub add-small : length (small (b .M) (b .entries)) + 1 < b .M
+        → splice (splice (image b) smallAt (padded (entryRoom * b .M) (encode (added root (tries b .small) (entryKey e))))) heldAt (bytesOf 4 (held b + 1))
+        ≡ image (put e b)
+    unfolding image
+    add-small h =
+        let t = tries b in
+        let t′ = tries (put e b) in
+        let g = small-grows b e h in
+        ap (λ (f : Forest). splice (splice (storeOf (front b) t) smallAt (padded (entryRoom * b .M) (encode f))) heldAt (bytesOf 4 (held b + 1))) (sym g)
+        ∙ ap (λ (x : List ℕ). splice x heldAt (bytesOf 4 (held b + 1))) (write-small (front b) t (image-fits b s) t′ (λ i l. levels-stay b e h i) (image-fits (put e b) s′ .small))
+        ∙ write-held (front b) t′ (held b + 1)
+        ∙ sym held-more

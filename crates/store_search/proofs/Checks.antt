@@ -1,0 +1,162 @@
+-- The numbers of a search, and what it promises with each. Assumes nothing.
+use mathlib.Core.Path.{_≡_, refl, sym, ap, _∙_}
+use mathlib.Core.Bool.{Bool, true, false, not, _||_}
+use mathlib.Core.Logic.{_⊎_}
+use Prim.Native.Nat.{ℕ, zero, suc, _≤_, _<_}
+use mathlib.Core.List.{List, [], _∷_}
+use native.Mathlib.Omega.{arith}
+use lib.ListN.{length}
+use lib.Dec.{ltb}
+use borrow.Author.Tests.{lt-ltb, le-ltb, ltb-false, not-false}
+use Rattle.buffer.specs.Lists.{pick}
+use Rattle.buffer.proofs.Tests.{or-left-false, or-right-false}
+use Rattle.matcher.specs.Form.{patternForm, patternNumber, isFine}
+use Rattle.matcher.specs.declared.form.Form.{Form}
+use Rattle.matcher.specs.declared.form.Form.the-variants.{Fine, TooLong, Malformed}
+use Rattle.rows.specs.Sizes.{rowSize}
+use Rattle.rows.specs.Order.{entryOrder}
+use Rattle.rows.proofs.Sorted.{length-sorted}
+use Rattle.entries.specs.Query.{Query, matchesEntry}
+use Rattle.book.specs.Front.{Front, frontSize, frontOf, inLimits, need, capacity, noStore}
+use Rattle.book.specs.Book.{Book, Sound, held, front}
+use Rattle.book.specs.Tries.{tries}
+use Rattle.book.specs.Searching.{matching}
+use Rattle.book.specs.Replies.{Reply, reply, result, firstOf, _when_, searchNumber}
+use Rattle.book.specs.Calls.{search}
+use Rattle.book.specs.Step.{step}
+use Rattle.book.specs.Image.{HoldsBook}
+use Rattle.book.specs.FromTries.{foundIn, searchTries}
+use Rattle.book.specs.Promises.{Accepted, NoRoom, Searches}
+use Rattle.book.proofs.Front.{Within, within}
+use Rattle.book.proofs.Numbers.{search-short}
+use Rattle.book.proofs.OneCall.{front-read}
+use Rattle.book.proofs.Listed.{length-pick, count-most}
+use Rattle.book.proofs.OverTries.{rows-found}
+use Rattle.book.proofs.FromTries.{search-tries}
+use Rattle.book.proofs.Good.{tries-good}
+use Rattle.store.specs.Opening.{Reads}
+use Rattle.store.specs.declared.front.Front as Code
+use Rattle.store_search.specs.Listing.{queryNumber, Listed}
+
+-- ---- the query's own checks
+
+module _ (q : Query) (n : ℕ) (is : n ≡ patternNumber (patternForm (q .pattern))) where
+  pub pattern-refused : 0 < n → n ≡ queryNumber q
+  pattern-refused h = go n refl
+    where
+      go : (k : ℕ) → n ≡ k → n ≡ queryNumber q
+      go zero z = absurd (omega arith)
+      go (suc k) z = z ∙ (unfold queryNumber in rw (← is, z))
+
+  pub range-refused : n ≤ 0 → q .high < q .low → 10 ≡ queryNumber q
+  unfolding queryNumber
+  range-refused h k =
+      let z : patternNumber (patternForm (q .pattern)) ≡ 0 = omega arith in
+      rw (z, lt-ltb (q .high) (q .low) k)
+
+  pub query-fine : n ≤ 0 → q .low ≤ q .high → 0 ≡ queryNumber q
+  unfolding queryNumber
+  query-fine h k =
+      let z : patternNumber (patternForm (q .pattern)) ≡ 0 = omega arith in
+      rw (z, le-ltb (q .high) (q .low) k)
+
+number-small : (f : Form) → patternNumber f < 4294967296
+number-small Fine = omega arith
+number-small TooLong = omega arith
+number-small Malformed = omega arith
+
+pub pattern-small : (f : Form) (n : ℕ) → n ≡ patternNumber f → n < 4294967296
+pattern-small f n e = omega (arith, number-small f)
+
+pub fine-pattern : (q : Query) → queryNumber q ≡ 0 → isFine (patternForm (q .pattern)) ≡ true
+unfolding queryNumber
+fine-pattern q h = go (patternForm (q .pattern)) h
+  where
+    go : (f : Form) → firstOf (patternNumber f ∷ (10 when ltb (q .high) (q .low)) ∷ []) ≡ 0 → isFine f ≡ true
+    go Fine e = refl
+    go TooLong e = absurd (let z : _≡_ {A = ℕ} 8 0 = e in omega arith)
+    go Malformed e = absurd (let z : _≡_ {A = ℕ} 7 0 = e in omega arith)
+
+pub accepted-query : (q : Query) (n : ℕ) → n ≡ queryNumber q → n ≤ 0 → queryNumber q ≡ 0
+accepted-query q n e h = omega arith
+
+search-number : (n : ℕ) (f : Front) (q : Query) → noStore n f ≡ false → searchNumber n f q ≡ queryNumber q
+unfolding searchNumber queryNumber
+search-number n f q h = rw h
+
+-- ---- what a store is that is not 4
+
+module _ (s : List ℕ) (g : Code.Front) (r : Reads s g) (h : noStore (length s) (frontOf s) ≡ false) where
+  is-store : (inLimits (frontOf s .M) (frontOf s .L) (frontOf s .τ) ≡ true) × (need (frontOf s .M) (frontOf s .L) ≤ length s)
+  unfolding noStore
+  is-store =
+      let f = frontOf s in
+      let n = length s in
+      let a = ltb n frontSize in
+      let b = not (inLimits (f .M) (f .L) (f .τ)) in
+      let c = ltb n (need (f .M) (f .L)) in
+      let d = ltb (capacity (f .M) (f .L)) (f .held) in
+      let abc = or-left-false (a || b || c) d h in
+      (not-false (inLimits (f .M) (f .L) (f .τ)) (or-right-false a b (or-left-false (a || b) c abc)), ltb-false n (need (f .M) (f .L)) (or-right-false (a || b) c abc))
+
+  pub opened-within : (g .m ≤ 4096) × (g .l ≤ 8) × (need (g .m) (g .l) ≤ length s)
+  opened-within = let w = within _ _ _ (is-store .0) in rw (r .m-is, r .l-is) (w .m-high, w .l-high, is-store .1)
+
+-- ---- the promise
+
+module _ {q : Query} {store answer : List ℕ} where
+  refuses : (n : ℕ) → searchNumber (length store) (frontOf store) q ≡ suc n → Searches q store answer answer (reply (suc n) 0 0)
+  refuses n e =
+      record {
+        refused = λ k h. ap (λ (i : ℕ). result (reply i 0 0) answer) (sym e ∙ h);
+        otherwise = λ z. absurd (let y : suc n ≡ 0 = sym e ∙ z in omega arith);
+        ours = λ b h. of-book b (ap (λ (f : Front). searchNumber (length store) f q) (sym (front-read h)) ∙ e);
+      }
+    where
+      of-book : (b : Book) → searchNumber (length store) (front b) q ≡ suc n → result (reply (suc n) 0 0) answer ≡ step b (search (length store) q answer) .result
+      of-book b z = unfold step in rw z
+
+  pub refuses-4 : noStore (length store) (frontOf store) ≡ true → Searches q store answer answer (reply 4 0 0)
+  refuses-4 h = refuses 3 (search-short (length store) (frontOf store) q h)
+
+  pub refuses-query : (n : ℕ) → noStore (length store) (frontOf store) ≡ false → n ≡ queryNumber q → 0 < n → Searches q store answer answer (reply n 0 0)
+  refuses-query zero h e p = absurd (omega arith)
+  refuses-query (suc n) h e p = refuses n (search-number (length store) (frontOf store) q h ∙ sym e)
+
+-- a sound book finds no more than it holds
+few-found : (b : Book) → Sound b → (q : Query) → length (foundIn q (b .L) (tries b)) ≤ held b
+unfolding matching
+few-found b s q =
+    omega (
+      arith,
+      length-sorted entryOrder (foundIn q (b .L) (tries b)),
+      ap length (rows-found b s q),
+      length-sorted entryOrder (pick (matchesEntry q) (b .entries)),
+      length-pick (matchesEntry q) (b .entries),
+      count-most (matchesEntry q) (b .entries),
+    )
+
+module _ {q : Query} {store answer filled : List ℕ} {g : Code.Front} {x : Reply} (r : Reads store g)
+    (h : noStore (length store) (frontOf store) ≡ false) (z : queryNumber q ≡ 0) (w : Listed q store (g .m) (g .l) (g .held) answer filled x) where
+  none : searchNumber (length store) (frontOf store) q ≡ 0
+  none = search-number (length store) (frontOf store) q h ∙ z
+
+  of-book : (b : Book) → HoldsBook store b → result x filled ≡ step b (search (length store) q answer) .result
+  of-book b hb =
+      let f : frontOf store ≡ front b = front-read hb in
+      let m : b .M ≡ g .m = sym (r .m-is ∙ ap (λ (y : Front). y .M) f) in
+      let l : b .L ≡ g .l = sym (r .l-is ∙ ap (λ (y : Front). y .L) f) in
+      let n : held b ≡ g .held = sym (r .held-is ∙ ap (λ (y : Front). y .held) f) in
+      let few : length (foundIn q (g .l) (tries b)) ≤ g .held = rw (← l, ← n) (few-found b (hb .sound) q) in
+      let none-of-book : searchNumber (length store) (front b) q ≡ 0 = ap (λ (y : Front). searchNumber (length store) y q) (sym f) ∙ none in
+      w .ours (front b) (tries b) m l (tries-good b (hb .sound)) (hb .holds) few
+      ∙ ap (λ (k : ℕ). searchTries q k (tries b) answer) (sym l)
+      ∙ sym (search-tries b (hb .sound) (length store) q answer none-of-book)
+
+  pub lists : Searches q store answer filled x
+  lists =
+      record {
+        refused = λ n e. absurd (let y : 0 ≡ suc n = sym none ∙ e in omega arith);
+        otherwise = λ y. rw (← r .held-is) (w .otherwise);
+        ours = of-book;
+      }
