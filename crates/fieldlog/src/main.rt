@@ -21,13 +21,7 @@ fn print_front(out: &[u8], n: usize) {
 }
 
 // Carries out what a byte, or the end of the input, completes.
-fn carry_out(
-    event: Event,
-    line: &[u8],
-    store: &mut [u8],
-    answer: &mut [u8],
-    out: &mut [u8],
-)
+fn carry_out(event: Event, line: &[u8], store: &mut [u8], answer: &mut [u8], out: &mut [u8])
     requires { ⌜ (length (now store) ≡ storeSize) × (length (now answer) ≡ answerSize) × (length (now out) ≡ printLimit) ⌝ }
 {
     match event {

@@ -1,7 +1,7 @@
 -- Things put one after another: what the steps of a walk together put. One set of laws for loops over suffixes and over siblings, for slots,
 -- for rows and for records. Assumes nothing.
 use mathlib.Core.Path.{_≡_, refl, sym, ap, _∙_}
-use mathlib.Core.Bool.{true, cond}
+use mathlib.Core.Bool.{Bool, true, cond}
 use mathlib.Core.Logic.{_⊎_, inl, inr, ⊎-elim}
 use Prim.Native.Nat.{ℕ, zero, suc, _+_, _-_, _*_, _≤_, _<_}
 use mathlib.Core.List.{List, [], _∷_, _++_, append-assoc, append-nil, map}

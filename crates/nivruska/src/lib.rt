@@ -32,12 +32,7 @@ pub fn add(store: &mut [u8], path: &[u8], value: u64, reference: &[u8]) -> Reply
 }
 
 #[no_mangle]
-pub extern "C" fn nivruska_add(
-    store: &mut [u8],
-    path: &[u8],
-    value: u64,
-    reference: &[u8],
-) -> Reply
+pub extern "C" fn nivruska_add(store: &mut [u8], path: &[u8], value: u64, reference: &[u8]) -> Reply
     ensures { λ r.
         ⌜ Adds (entry (now (path .entry)) value (now (reference .entry))) (now (store .entry)) (now (store .exit)) (said r) ⌝ }
 {

@@ -23,7 +23,6 @@ use Rattle.gather.proofs.Splitting.{join-longer, blank, keys-root}
 use Rattle.search.specs.Steps.{rootKind, over, takes}
 use Rattle.search.specs.Searches.{Searched, TrieSearched, TrieFound, BodyFound, Short, Roomy}
 
-
 -- ---- room
 
 short-join : (k s : Strings) → Short (join k s) → Short k

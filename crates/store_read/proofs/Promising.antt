@@ -1,6 +1,6 @@
 -- What a reading back promises: with 4, of a level that there is not, and of a level that is listed. Assumes nothing.
 use mathlib.Core.Path.{_≡_, refl, sym, ap, _∙_}
-use mathlib.Core.Bool.{Bool, true, false, not, _&&_, _||_}
+use mathlib.Core.Bool.{true, false, not, _||_}
 use mathlib.Core.Logic.{inl}
 use Prim.Native.Nat.{ℕ, suc, _+_, _≤_, _<_}
 use mathlib.Core.List.{List, []}
@@ -9,23 +9,21 @@ use native.Mathlib.Numerals.{add-one}
 use lib.ListN.{length, length-take, length-drop}
 use lib.Dec.{ltb}
 use borrow.Author.Tests.{lt-ltb, le-ltb, ltb-false, not-false}
-use Rattle.buffer.specs.Lists.{All, all, flat}
-use Rattle.buffer.proofs.Lists.{all-imp, all-tested, all-test}
+use Rattle.buffer.specs.Lists.{flat}
+use Rattle.buffer.proofs.Lists.{all-imp, all-test}
 use Rattle.buffer.proofs.Splice.{splice-nil}
-use Rattle.buffer.proofs.Tests.{and-left, and-right, and-both, or-left-false, or-right-false}
-use Rattle.rows.specs.Entry.{Entry, fitsRow}
+use Rattle.buffer.proofs.Tests.{or-left-false, or-right-false}
+use Rattle.rows.specs.Entry.{Entry}
 use Rattle.rows.proofs.Sorted.{count-all}
-use Rattle.trie_theory.specs.Forest.{Key, Forest, keys}
-use Rattle.trie_theory.specs.Lookup.{sameKey}
+use Rattle.trie_theory.specs.Forest.{Key, keys}
+use Rattle.trie_theory.specs.Entries as Entries
 use Rattle.trie_theory.specs.Encode.{encode}
-use Rattle.trie_theory.proofs.Lookup.{sameKey-true, sameKey-of}
-use Rattle.entries.specs.Keys.{entryKey}
 use Rattle.trie_read.specs.Shape.{part}
 use Rattle.gather.specs.KeySlots.{hasSlot}
 use Rattle.gather.proofs.Filling.{entry-has}
 use Rattle.book.specs.Digits.{level}
 use Rattle.book.specs.Front.{Front, frontSize, frontOf, inLimits, need, capacity, noStore}
-use Rattle.book.specs.Book.{Book, Sound, formed, held, front}
+use Rattle.book.specs.Book.{Book, Sound, held, front}
 use Rattle.book.specs.Tries.{Tries, tries}
 use Rattle.book.specs.Replies.{Reply, reply, result, readNumber}
 use Rattle.book.specs.Calls.{readLevel}
@@ -36,16 +34,15 @@ use Rattle.book.specs.Promises.{ReadsLevel}
 use Rattle.book.proofs.Front.{within}
 use Rattle.book.proofs.Numbers.{read-short}
 use Rattle.book.proofs.OneCall.{front-read}
-use Rattle.book.proofs.Keys.{key-entry, fits-row}
-use Rattle.book.proofs.Image.{level-formed}
-use Rattle.book.proofs.OverTries.{TrieFor, count-none, none-count, level-for}
+use Rattle.book.proofs.EntryKeys.{entry-back, entry-fits}
+use Rattle.book.proofs.OverTries.{level-for}
 use Rattle.book.proofs.FromTries.{read-tries}
 use Rattle.book.proofs.Good.{tries-good}
 use Rattle.store.specs.Opening.{Reads}
 use Rattle.store.specs.Parts.{numbered, PartOf}
 use Rattle.store.specs.declared.front.Front as Code
 use Rattle.store.proofs.Places.{good-regular}
-use Rattle.store_read.specs.Listings.{OfEntry, Level, readTrie, Listed}
+use Rattle.store_read.specs.Listings.{Level, readTrie, Listed}
 
 -- ---- what a store is that is not 4
 
@@ -67,29 +64,8 @@ module _ (s : List ℕ) (g : Code.Front) (r : Reads s g) (h : noStore (length s)
 
 -- ---- the trie of a level
 
--- the test of a key that is the key of its entry
-unfoldable isOf : Key → Bool
-isOf x = sameKey (entryKey (keyEntry x)) x && fitsRow (keyEntry x)
-
-of-entry : (x : Key) → isOf x ≡ true → OfEntry x
-unfolding isOf
-of-entry x h =
-    let a = sameKey (entryKey (keyEntry x)) x in
-    let b = fitsRow (keyEntry x) in
-    record { back = sameKey-true (entryKey (keyEntry x)) x (and-left a b h); fits = and-right a b h }
-
-entry-is : (e : Entry) → formed e ≡ true → isOf (entryKey e) ≡ true
-unfolding isOf
-entry-is e h =
-    and-both (sameKey-of (entryKey (keyEntry (entryKey e))) (entryKey e) (ap entryKey (key-entry e))) (ap fitsRow (key-entry e) ∙ fits-row e h)
-
--- a trie of entries has their keys
-keys-of : {es : List Entry} {f : Forest} → TrieFor es f → all formed es ≡ true → All OfEntry (keys [] f)
-keys-of {es} {f} r h =
-    all-imp of-entry (count-none isOf (keys [] f) (r .kept (λ x. not (isOf x)) ∙ none-count (λ e. isOf (entryKey e)) (all-imp entry-is (all-tested formed es h))))
-
-slot-of : (x : Key) → OfEntry x → hasSlot x ≡ true
-slot-of x o = ap hasSlot (sym (o .back)) ∙ entry-has (keyEntry x) (o .fits)
+slot-of : (x : Key) → Entries.Entry x → hasSlot x ≡ true
+slot-of x e = ap hasSlot (sym (entry-back x e)) ∙ entry-has (keyEntry x) (entry-fits x e)
 
 level-few : (m i : ℕ) (es : List Entry) → length (level m i es) ≤ length es
 unfolding level
@@ -104,10 +80,9 @@ module _ (b : Book) (s : Sound b) (i : ℕ) where
   of-level : i < b .L → (t : List ℕ) → t ≡ encode (tries b .level i) → Level t (tries b .level i)
   of-level h t e =
       let g = tries-good b s .levels i h in
-      let ks = keys-of (level-for b s i) (level-formed (b .M) i (b .entries) (s .formed)) in
       record {
-        trie = record { regular = good-regular _ (tries b .level i) g; sound = g .sound; high = g .high; slots = all-test hasSlot (all-imp slot-of ks); bytes = e };
-        entries = ks;
+        trie = record { regular = good-regular _ (tries b .level i) g; sound = g .sound; high = g .high; slots = all-test hasSlot (all-imp slot-of (g .entries)); bytes = e };
+        entries = g .entries;
       }
 
 -- ---- the promise

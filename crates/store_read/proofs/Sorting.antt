@@ -9,10 +9,10 @@ use lib.ListN.{length, take, drop, length-map, length-take, take-append-drop}
 use lib.Seq.{take-all}
 use lib.Dec.{ltb}
 use borrow.Author.Tests.{lt-ltb, le-ltb}
-use Rattle.buffer.specs.Lists.{All, nil, cons, all, flat}
+use Rattle.buffer.specs.Lists.{all, flat}
 use Rattle.buffer.specs.Splice.{splice, region}
 use Rattle.buffer.proofs.Lists.{all-left, all-tested, all-test}
-use Rattle.buffer.proofs.Tests.{and-both}
+use Rattle.buffer.proofs.Tests.{and-left, and-right}
 use Rattle.buffer.proofs.Splice.{length-splice, region-at, splice-over, drop-after}
 use Rattle.rows.specs.Sizes.{recordSize}
 use Rattle.rows.specs.Entry.{Entry, fitsRow}
@@ -22,18 +22,18 @@ use Rattle.rows.specs.Records.{records}
 use Rattle.rows.proofs.Records.{wide, records-joined, length-joined}
 use Rattle.rows.proofs.Sorted.{all-sorted, length-sorted}
 use Rattle.rows.proofs.Rows.{sorted-records}
-use Rattle.trie_theory.specs.Forest.{Key, Forest, keys}
+use Rattle.trie_theory.specs.Forest.{Forest, keys}
 use Rattle.trie_theory.specs.Walk.{walk}
 use Rattle.entries.specs.Keys.{entryKey}
-use Rattle.gather.specs.KeySlots.{keyRow}
 use Rattle.gather.proofs.Filling.{entry-row}
 use Rattle.book.specs.Records.{walkBytes, recordOf}
 use Rattle.book.specs.Replies.{reply, result}
 use Rattle.book.specs.Step.{fill, list}
 use Rattle.book.specs.FromTries.{keyEntry, entriesOf}
+use Rattle.book.proofs.EntryKeys.{keys-of-entries}
 use Rattle.book.specs.Promises.{Accepted}
 use Rattle.read_back.specs.Readings.{isRecord, trieRecord, TrieRead}
-use Rattle.store_read.specs.Listings.{OfEntry, Level, readTrie, Overfull, Filled, Listed}
+use Rattle.store_read.specs.Listings.{Level, readTrie, Overfull, Filled, Listed}
 
 -- ---- the answer from the trie
 
@@ -60,18 +60,13 @@ module _ (f : Forest) (answer : List ℕ) where
 -- ---- records of keys of entries
 
 module _ (f : Forest) where
-  record-is : (x : Key) → OfEntry x → trieRecord f x ≡ recordOf f (keyEntry x)
+  record-is : (e : Entry) → fitsRow e ≡ true → trieRecord f (entryKey e) ≡ recordOf f e
   unfolding trieRecord recordOf
-  record-is x e =
-      ap₂ _++_ (ap keyRow (sym (e .back)) ∙ entry-row (keyEntry x) (e .fits)) (ap (λ (y : Key). walkBytes (walk [] f y)) (sym (e .back)))
+  record-is e h = ap (λ (l : List ℕ). l ++ walkBytes (walk [] f (entryKey e))) (entry-row e h)
 
-  records-are : {xs : List Key} → All OfEntry xs → map (trieRecord f) xs ≡ map (recordOf f) (map keyEntry xs)
-  records-are nil = refl
-  records-are (cons {x = x} e a) = ap₂ _∷_ (record-is x e) (records-are a)
-
-  fit-rows : {xs : List Key} → All OfEntry xs → all fitsRow (map keyEntry xs) ≡ true
-  fit-rows nil = refl
-  fit-rows (cons {x = x} e a) = and-both (e .fits) (fit-rows a)
+  records-are : (es : List Entry) → all fitsRow es ≡ true → map (trieRecord f) (map entryKey es) ≡ map (recordOf f) es
+  records-are [] h = refl
+  records-are (e ∷ es) h = ap₂ _∷_ (record-is e (and-left (fitsRow e) (all fitsRow es) h)) (records-are es (and-right (fitsRow e) (all fitsRow es) h))
 
   -- they sort as the entries do
   sorted-are : (es : List Entry) → all fitsRow es ≡ true → sorted recordOrder (map (recordOf f) es) ≡ map (recordOf f) (sorted entryOrder es)
@@ -139,9 +134,11 @@ module _ {t : List ℕ} {room : ℕ} {answer s : List ℕ} {n : ℕ} (a : TrieRe
         let put : a .put ≡ map (trieRecord f) (keys [] f) = a .are f (l .trie) in
         let size : length (a .put) ≡ length (keys [] f) = ap length put ∙ length-map (keys [] f) (trieRecord f) in
         let count : rows ≡ length (keys [] f) = omega (arith, a .count) in
-        let of-entries : taken ≡ map (recordOf f) (entriesOf f) = take-all room (a .put) (omega arith) ∙ put ∙ records-are f (l .entries) ∙ sym (unfold entriesOf in refl) in
+        let k = keys-of-entries f (l .entries) in
+        let of-entries : taken ≡ map (recordOf f) (entriesOf f) =
+        take-all room (a .put) (omega arith) ∙ put ∙ ap (map (trieRecord f)) (k .0) ∙ records-are f (entriesOf f) (k .1) in
         let ordered : in-order ≡ flat (listed f answer) =
-        ap (λ (rs : List (List ℕ)). flat (sorted recordOrder rs)) of-entries ∙ ap flat (sorted-are f (entriesOf f) (unfold entriesOf in fit-rows f (l .entries))) in
+        ap (λ (rs : List (List ℕ)). flat (sorted recordOrder rs)) of-entries ∙ ap flat (sorted-are f (entriesOf f) (k .1)) in
         (λ i. result (reply 0 (count i) 0) ((sorted-in ∙ ap (splice answer 0) ordered) i)) ∙ sym (has-room f answer (omega arith))
 
     pub fills : Filled t room answer filled rows

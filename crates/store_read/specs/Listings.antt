@@ -1,33 +1,26 @@
 -- The records of a trie of a store, and what a reading back lists of them. Assumes nothing: these are definitions.
 use Prim.Native.Nat.{ℕ, _<_, _≤_}
 use mathlib.Core.Path.{_≡_}
-use mathlib.Core.Bool.{true}
 use mathlib.Core.Logic.{_⊎_}
 use mathlib.Core.List.{List, [], map}
 use lib.ListN.{length}
 use Rattle.buffer.specs.Lists.{All}
 use Rattle.rows.specs.Sizes.{recordSize}
-use Rattle.rows.specs.Entry.{fitsRow}
 use Rattle.rows.specs.Order.{entryOrder}
 use Rattle.rows.specs.Sorted.{sorted}
-use Rattle.trie_theory.specs.Forest.{Key, Forest, keys}
-use Rattle.entries.specs.Keys.{entryKey}
+use Rattle.trie_theory.specs.Forest.{Forest, keys}
+use Rattle.trie_theory.specs.Entries.{Entry}
 use Rattle.book.specs.Records.{recordOf}
 use Rattle.book.specs.Replies.{Reply, reply, Result, result}
 use Rattle.book.specs.Step.{list}
-use Rattle.book.specs.FromTries.{keyEntry, entriesOf}
+use Rattle.book.specs.FromTries.{entriesOf}
 use Rattle.book.specs.Promises.{Accepted, NoRoom}
 use Rattle.read_back.specs.Readings.{TrieBytes}
-
--- a key that is the key of its entry, which has a row
-pub record OfEntry (x : Key) : Type 0 where
-  pub back : entryKey (keyEntry x) ≡ x
-  pub fits : fitsRow (keyEntry x) ≡ true
 
 -- the bytes t are those of a trie of keys of entries
 pub record Level (t : List ℕ) (f : Forest) : Type 0 where
   pub trie : TrieBytes t f
-  pub entries : All OfEntry (keys [] f)
+  pub entries : All Entry (keys [] f)
 
 -- the answer from the trie
 unfoldable pub readTrie : Forest → List ℕ → Result

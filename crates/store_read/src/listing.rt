@@ -1,21 +1,14 @@
 // What a reading back leaves in the answer: the records of a trie, sorted, or nothing where they have no room.
 use read_back::walk::read_trie;
+use rows::order::least;
 use rows::sizes::RECORD_SIZE;
 use rows::sort::sort;
 use store::reply::Reply;
-ghost use mathlib.Core.Path.{_≡_};
-ghost use Prim.Native.Nat.{_*_, _≤_, min};
+ghost use Prim.Native.Nat.{_*_, _≤_};
 ghost use lib.ListN.{length};
 ghost use Rattle.rows.specs.Sizes.{recordSize};
 ghost use Rattle.store.specs.Said.{said};
 ghost use Rattle.store_read.specs.Listings.{Overfull, Filled, Listed};
-
-// The less of two numbers.
-fn least(m: usize, n: usize) -> usize
-    ensures { λ r. ⌜ r ≡ min m n ⌝ }
-{
-    if m < n { m } else { n }
-}
 
 // The number of records, where they are more than there is room for, else 0. They are not counted where all that the store says it holds have room.
 fn overfull(trie: &[u8], held: usize, room: usize) -> usize

@@ -50,10 +50,10 @@ print-rows-spec =
     (λ c. search needs)
     (λ c. omega arith)
     (λ c κs.
-        let i = c .before .before .before .loop .i in
-        let s = c .before .before .before .before .before .before .args .answer .now in
-        let from : i * 229 + 229 - i * 229 ≡ rowSize = omega arith in
-        (omega (arith, c .before .before .before .loop .inv), rw from (length-region s (i * rowSize) rowSize (omega arith))))
+    let i = c .before .before .before .loop .i in
+    let s = c .before .before .before .before .before .before .args .answer .now in
+    let from : i * 229 + 229 - i * 229 ≡ rowSize = omega arith in
+    (omega (arith, c .before .before .before .loop .inv), rw from (length-region s (i * rowSize) rowSize (omega arith))))
     (λ c. search needs)
     (λ c. search needs)
     loop-again

@@ -13,5 +13,5 @@ run-setup-spec =
     (λ c. search needs)
     (λ c. search needs)
     (λ c.
-        let s = c .before .before .before .before .before .before .setup in
-        ran-setup (c .before .before .before .before .before .before .before .before .before .before .pre .0) (s .kept .0) (c .before .before .print-reply .ensures) _ _ _ (s .ensures)))
+    let s = c .before .before .before .before .before .before .setup in
+    ran-setup (c .before .before .before .before .before .before .before .before .before .before .pre .0) (s .kept .0) (c .before .before .print-reply .ensures) _ _ _ (s .ensures)))
