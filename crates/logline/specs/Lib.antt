@@ -1,5 +1,5 @@
+pub use Rattle.linefields.specs.Fields
+pub use Rattle.linespell.specs.Spelling
+pub use Rattle.linecut.specs.Input
 pub mod Sizes
-pub mod Fields
 pub mod Meaning
-pub mod Spelling
-pub mod Input

@@ -21,8 +21,8 @@ use Rattle.rows.proofs.Rows.{all-wide, length-row}
 use Rattle.book.proofs.Kept.{matching-fits}
 use Rattle.logline.specs.Sizes.{rowLineLimit}
 use Rattle.logline.specs.Spelling.{decimal, hex, rowLine, Wrote}
-use Rattle.logline.proofs.Decimals.{length-decimal}
-use Rattle.logline.proofs.Writing.{length-hex, then}
+use Rattle.linespell.proofs.Decimals.{length-decimal}
+use Rattle.linespell.proofs.Writing.{length-hex, then}
 use Rattle.buffer.proofs.Splice.{length-region, splice-is, splice-nil}
 use Rattle.buffer.proofs.Lists.{map-append, flat-append}
 use Rattle.entries.specs.Query.{Query}

@@ -21,7 +21,7 @@ use Rattle.book.specs.Promises.{SetsUp, Adds, Searches, Accepted, NoRoom}
 use Rattle.search.specs.Asked.{asked}
 use Rattle.logline.specs.Meaning.{Meaning, setup, addition, searching, misread}
 use Rattle.logline.specs.Spelling.{rowLine, Wrote}
-use Rattle.logline.proofs.Writing.{then}
+use Rattle.linespell.proofs.Writing.{then}
 use Rattle.session.specs.Sizes.{storeSize, answerSize}
 use Rattle.session.specs.Printed.{entry, setupCall, addCall, searchCall, replyLine, rowLines, searched, printed, next}
 use Rattle.session.specs.Keeps.{Keeps, Ran}

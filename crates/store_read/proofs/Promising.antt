@@ -1,6 +1,6 @@
 -- What a reading back promises: with 4, of a level that there is not, and of a level that is listed. Assumes nothing.
 use mathlib.Core.Path.{_≡_, refl, sym, ap, _∙_}
-use mathlib.Core.Bool.{true, false, not, _||_}
+use mathlib.Core.Bool.{true, false}
 use mathlib.Core.Logic.{inl}
 use Prim.Native.Nat.{ℕ, suc, _+_, _≤_, _<_}
 use mathlib.Core.List.{List, []}
@@ -8,11 +8,10 @@ use native.Mathlib.Omega.{arith}
 use native.Mathlib.Numerals.{add-one}
 use lib.ListN.{length, length-take, length-drop}
 use lib.Dec.{ltb}
-use borrow.Author.Tests.{lt-ltb, le-ltb, ltb-false, not-false}
+use borrow.Author.Tests.{lt-ltb, le-ltb}
 use Rattle.buffer.specs.Lists.{flat}
 use Rattle.buffer.proofs.Lists.{all-imp, all-test}
 use Rattle.buffer.proofs.Splice.{splice-nil}
-use Rattle.buffer.proofs.Tests.{or-left-false, or-right-false}
 use Rattle.rows.specs.Entry.{Entry}
 use Rattle.rows.proofs.Sorted.{count-all}
 use Rattle.trie_theory.specs.Forest.{Key, keys}
@@ -22,7 +21,7 @@ use Rattle.trie_read.specs.Shape.{part}
 use Rattle.gather.specs.KeySlots.{hasSlot}
 use Rattle.gather.proofs.Filling.{entry-has}
 use Rattle.book.specs.Digits.{level}
-use Rattle.book.specs.Front.{Front, frontSize, frontOf, inLimits, need, capacity, noStore}
+use Rattle.book.specs.Front.{Front, frontOf, noStore}
 use Rattle.book.specs.Book.{Book, Sound, held, front}
 use Rattle.book.specs.Tries.{Tries, tries}
 use Rattle.book.specs.Replies.{Reply, reply, result, readNumber}
@@ -31,7 +30,6 @@ use Rattle.book.specs.Step.{fill, list, step}
 use Rattle.book.specs.Image.{HoldsBook}
 use Rattle.book.specs.FromTries.{keyEntry, readTries}
 use Rattle.book.specs.Promises.{ReadsLevel}
-use Rattle.book.proofs.Front.{within}
 use Rattle.book.proofs.Numbers.{read-short}
 use Rattle.book.proofs.OneCall.{front-read}
 use Rattle.book.proofs.EntryKeys.{entry-back, entry-fits}
@@ -43,24 +41,6 @@ use Rattle.store.specs.Parts.{numbered, PartOf}
 use Rattle.store.specs.declared.front.Front as Code
 use Rattle.store.proofs.Places.{good-regular}
 use Rattle.store_read.specs.Listings.{Level, readTrie, Listed}
-
--- ---- what a store is that is not 4
-
-module _ (s : List ℕ) (g : Code.Front) (r : Reads s g) (h : noStore (length s) (frontOf s) ≡ false) where
-  is-store : (inLimits (frontOf s .M) (frontOf s .L) (frontOf s .τ) ≡ true) × (need (frontOf s .M) (frontOf s .L) ≤ length s)
-  unfolding noStore
-  is-store =
-      let f = frontOf s in
-      let n = length s in
-      let a = ltb n frontSize in
-      let b = not (inLimits (f .M) (f .L) (f .τ)) in
-      let c = ltb n (need (f .M) (f .L)) in
-      let d = ltb (capacity (f .M) (f .L)) (f .held) in
-      let abc = or-left-false (a || b || c) d h in
-      (not-false (inLimits (f .M) (f .L) (f .τ)) (or-right-false a b (or-left-false (a || b) c abc)), ltb-false n (need (f .M) (f .L)) (or-right-false (a || b) c abc))
-
-  pub opened-within : (g .m ≤ 4096) × (g .l ≤ 8) × (need (g .m) (g .l) ≤ length s)
-  opened-within = let w = within _ _ _ (is-store .0) in rw (r .m-is, r .l-is) (w .m-high, w .l-high, is-store .1)
 
 -- ---- the trie of a level
 

@@ -62,10 +62,10 @@ walk-requires t c κs =
     let room = entered-room (c .before .before .before .before .before .enter .ensures) (c .before .before .if3 .taken) in (
       omega (arith, c .before .before .before .before .before .before .before .before .before .before .before .before .before .before .before .before .if2 .left, c .before .before .before .before .before .before .before .before .before .before .before .before .before .before .before .before .before .before .before .before .pre .0),
       record {
-        ordered = omega arith;
-        before = omega (arith, pre .before);
+        ordered = omega (arith, w);
+        before = omega (arith, w, l .inv .1, pre .before);
         fits = omega (arith, pre .fits, l .inv .3);
-        few = omega (arith, pre .few, l .inv .3);
+        few = omega (arith, w, l .inv .0, l .inv .1, l .inv .2, pre .few, l .inv .3);
         buffer = c .before .before .before .before .before .enter .kept .0 ∙ l .inv .4;
         value = room .0;
         path = room .1;
@@ -83,21 +83,21 @@ loop-again t c =
     let key = c .before .before .before .enter .kept .0 ∙ l .inv .4 in
     ⊎-elim
     (λ y. (
-      omega arith,
-      omega arith,
-      omega (arith, y .10, y .3 .ensures .0),
+      omega (arith, w, l .inv .0),
+      omega (arith, w, l .inv .1),
+      omega (arith, w, l .inv .0, l .inv .1, l .inv .2, y .10, y .3 .ensures .0),
       rw (y .8) (y .3 .kept .0 ∙ l .inv .3),
       rw (y .9) (y .3 .kept .1 .1 .1 .1 .0 ∙ key),
       rw (y .8, y .9, y .10)
-          (tries-in pre (l .a) (omega arith) (l .inv .5) is _ _ _ _ e (omega arith) (omega arith) (omega arith) entered (y .0 .taken) (y .3 .ensures .1)),
+          (tries-in pre (l .a) (omega (arith, l .inv .1)) (l .inv .5) is _ _ _ _ e (omega (arith, w)) (omega (arith, w)) (omega (arith, w)) entered (y .0 .taken) (y .3 .ensures .1)),
     ))
     (λ y. (
-      omega arith,
-      omega arith,
-      omega (arith, y .3),
+      omega (arith, w, l .inv .0),
+      omega (arith, w, l .inv .1),
+      omega (arith, w, l .inv .2, y .3),
       rw (y .1) (l .inv .3),
       rw (y .2) key,
-      rw (y .1, y .2, y .3) (tries-out pre (l .a) (omega arith) (l .inv .5) is _ _ _ _ e (omega arith) (omega arith) (omega arith) entered (y .0 .left)),
+      rw (y .1, y .2, y .3) (tries-out pre (l .a) (omega (arith, l .inv .1)) (l .inv .5) is _ _ _ _ e (omega (arith, w)) (omega (arith, w)) (omega (arith, w)) entered (y .0 .left)),
     ))
     (c .if3 .came)
 
@@ -122,16 +122,16 @@ pub +walk-spec : {M : Type 1} → statement M
     (λ c. omega arith)
     (λ c. omega (arith, c .before .before .before .before .before .before .before .before .before .before .before .before .before .pre .1 .before, c .before .before .before .before .before .before .before .before .before .before .before .before .before .pre .1 .fits, c .before .before .before .before .before .before .before .before .loop .inv .3))
     (λ c κs. let w = inside t (c .before .before .before .before) in let l = c .before .before .before .before .before .before .before .before .before .loop in (l .inv .4, c .before .before .before .before .before .before .before .before .before .before .before .before .before .before .pre .1 .value, c .before .before .before .before .before .before .before .before .before .before .before .before .before .before .pre .1 .path, omega arith, omega arith, omega (arith, length-part (l .s) (l .a) (c .before .before .before .before .before .before .before .before .before .before .before .before .before .before .args .to) (omega (arith, c .before .before .before .before .before .before .before .before .before .before .before .before .before .before .pre .1 .before, c .before .before .before .before .before .before .before .before .before .before .before .before .before .before .pre .1 .fits, l .inv .3)))))
-    (λ c. let w = inside t (c .before .before .before .before .before .before .before .before .before) in omega arith)
-    (λ c. let w = inside t (c .before .before .before .before .before .before .before .before .before) in omega arith)
-    (λ c. let w = inside t (c .before .before .before .before .before .before .before .before .before .before) in omega arith)
-    (λ c. let w = inside t (c .before .before .before .before .before .before .before .before .before .before) in omega arith)
-    (λ c. let w = inside t (c .before .before .before .before .before .before .before .before .before .before) in omega arith)
-    (λ c. let w = inside t (c .before .before .before .before .before .before .before .before .before .before) in omega arith)
-    (λ c. let w = inside t (c .before .before .before .before .before .before .before .before .before .before) in omega arith)
+    (λ c. omega (arith, inside t (c .before .before .before .before .before .before .before .before .before), c .before .before .before .before .before .before .before .before .before .before .before .before .before .before .loop .inv .0, c .before .before .before .before .before .before .before .before .before .before .before .before .before .before .loop .inv .1, c .before .before .before .before .before .before .before .before .before .before .before .before .before .before .loop .inv .2, c .before .before .before .before .before .before .before .before .before .before .before .before .before .before .loop .inv .3, c .before .before .before .before .before .before .before .before .before .before .before .before .before .before .before .before .before .before .before .pre .1 .before, c .before .before .before .before .before .before .before .before .before .before .before .before .before .before .before .before .before .before .before .pre .1 .fits, c .before .before .before .before .before .before .before .before .before .before .before .before .before .before .before .before .before .before .before .pre .1 .few))
+    (λ c. omega (arith, inside t (c .before .before .before .before .before .before .before .before .before), c .before .before .before .before .before .before .before .before .before .before .before .before .before .before .loop .inv .0, c .before .before .before .before .before .before .before .before .before .before .before .before .before .before .loop .inv .1, c .before .before .before .before .before .before .before .before .before .before .before .before .before .before .loop .inv .2, c .before .before .before .before .before .before .before .before .before .before .before .before .before .before .loop .inv .3, c .before .before .before .before .before .before .before .before .before .before .before .before .before .before .before .before .before .before .before .pre .1 .before, c .before .before .before .before .before .before .before .before .before .before .before .before .before .before .before .before .before .before .before .pre .1 .fits, c .before .before .before .before .before .before .before .before .before .before .before .before .before .before .before .before .before .before .before .pre .1 .few))
+    (λ c. omega (arith, inside t (c .before .before .before .before .before .before .before .before .before .before), c .before .before .before .before .before .before .before .before .before .before .before .before .before .before .before .loop .inv .0, c .before .before .before .before .before .before .before .before .before .before .before .before .before .before .before .loop .inv .1, c .before .before .before .before .before .before .before .before .before .before .before .before .before .before .before .loop .inv .2, c .before .before .before .before .before .before .before .before .before .before .before .before .before .before .before .loop .inv .3, c .before .before .before .before .before .before .before .before .before .before .before .before .before .before .before .before .before .before .before .before .pre .1 .before, c .before .before .before .before .before .before .before .before .before .before .before .before .before .before .before .before .before .before .before .before .pre .1 .fits, c .before .before .before .before .before .before .before .before .before .before .before .before .before .before .before .before .before .before .before .before .pre .1 .few))
+    (λ c. omega (arith, inside t (c .before .before .before .before .before .before .before .before .before .before), c .before .before .before .before .before .before .before .before .before .before .before .before .before .before .before .loop .inv .0, c .before .before .before .before .before .before .before .before .before .before .before .before .before .before .before .loop .inv .1, c .before .before .before .before .before .before .before .before .before .before .before .before .before .before .before .loop .inv .2, c .before .before .before .before .before .before .before .before .before .before .before .before .before .before .before .loop .inv .3, c .before .before .before .before .before .before .before .before .before .before .before .before .before .before .before .before .before .before .before .before .pre .1 .before, c .before .before .before .before .before .before .before .before .before .before .before .before .before .before .before .before .before .before .before .before .pre .1 .fits, c .before .before .before .before .before .before .before .before .before .before .before .before .before .before .before .before .before .before .before .before .pre .1 .few))
+    (λ c. omega (arith, inside t (c .before .before .before .before .before .before .before .before .before .before), c .before .before .before .before .before .before .before .before .before .before .before .before .before .before .before .loop .inv .0, c .before .before .before .before .before .before .before .before .before .before .before .before .before .before .before .loop .inv .1, c .before .before .before .before .before .before .before .before .before .before .before .before .before .before .before .loop .inv .2, c .before .before .before .before .before .before .before .before .before .before .before .before .before .before .before .loop .inv .3, c .before .before .before .before .before .before .before .before .before .before .before .before .before .before .before .before .before .before .before .before .pre .1 .before, c .before .before .before .before .before .before .before .before .before .before .before .before .before .before .before .before .before .before .before .before .pre .1 .fits, c .before .before .before .before .before .before .before .before .before .before .before .before .before .before .before .before .before .before .before .before .pre .1 .few))
+    (λ c. omega (arith, inside t (c .before .before .before .before .before .before .before .before .before .before), c .before .before .before .before .before .before .before .before .before .before .before .before .before .before .before .loop .inv .0, c .before .before .before .before .before .before .before .before .before .before .before .before .before .before .before .loop .inv .1, c .before .before .before .before .before .before .before .before .before .before .before .before .before .before .before .loop .inv .2, c .before .before .before .before .before .before .before .before .before .before .before .before .before .before .before .loop .inv .3, c .before .before .before .before .before .before .before .before .before .before .before .before .before .before .before .before .before .before .before .before .pre .1 .before, c .before .before .before .before .before .before .before .before .before .before .before .before .before .before .before .before .before .before .before .before .pre .1 .fits, c .before .before .before .before .before .before .before .before .before .before .before .before .before .before .before .before .before .before .before .before .pre .1 .few))
+    (λ c. omega (arith, inside t (c .before .before .before .before .before .before .before .before .before .before), c .before .before .before .before .before .before .before .before .before .before .before .before .before .before .before .loop .inv .0, c .before .before .before .before .before .before .before .before .before .before .before .before .before .before .before .loop .inv .1, c .before .before .before .before .before .before .before .before .before .before .before .before .before .before .before .loop .inv .2, c .before .before .before .before .before .before .before .before .before .before .before .before .before .before .before .loop .inv .3, c .before .before .before .before .before .before .before .before .before .before .before .before .before .before .before .before .before .before .before .before .pre .1 .before, c .before .before .before .before .before .before .before .before .before .before .before .before .before .before .before .before .before .before .before .before .pre .1 .fits, c .before .before .before .before .before .before .before .before .before .before .before .before .before .before .before .before .before .before .before .before .pre .1 .few))
     (walk-requires t)
-    (λ c. let w = inside t (c .before .before .before .before .before .before .before .before) in omega arith)
-    (λ c. let w = inside t (c .before .before .before .before .before .before .before .before) in omega arith)
+    (λ c. omega (arith, inside t (c .before .before .before .before .before .before .before .before), c .before .before .before .before .before .before .before .before .before .before .before .before .before .loop .inv .0, c .before .before .before .before .before .before .before .before .before .before .before .before .before .loop .inv .1, c .before .before .before .before .before .before .before .before .before .before .before .before .before .loop .inv .2, c .before .before .before .before .before .before .before .before .before .before .before .before .before .loop .inv .3, c .before .before .before .before .before .before .before .before .before .before .before .before .before .before .before .before .before .before .pre .1 .before, c .before .before .before .before .before .before .before .before .before .before .before .before .before .before .before .before .before .before .pre .1 .fits, c .before .before .before .before .before .before .before .before .before .before .before .before .before .before .before .before .before .before .pre .1 .few))
+    (λ c. omega (arith, inside t (c .before .before .before .before .before .before .before .before), c .before .before .before .before .before .before .before .before .before .before .before .before .before .loop .inv .0, c .before .before .before .before .before .before .before .before .before .before .before .before .before .loop .inv .1, c .before .before .before .before .before .before .before .before .before .before .before .before .before .loop .inv .2, c .before .before .before .before .before .before .before .before .before .before .before .before .before .loop .inv .3, c .before .before .before .before .before .before .before .before .before .before .before .before .before .before .before .before .before .before .pre .1 .before, c .before .before .before .before .before .before .before .before .before .before .before .before .before .before .before .before .before .before .pre .1 .fits, c .before .before .before .before .before .before .before .before .before .before .before .before .before .before .before .before .before .before .pre .1 .few))
     (loop-again t)
     (λ c. search needs)
     (λ c. c .before .before .before .before .before .loop .inv .3)

@@ -1,7 +1,8 @@
 -- The front is read, and then the trie of the level, if there is one. Assumes nothing.
 use borrow.Author.Needs.{needs}
 use native.Mathlib.Omega.{arith}
-use Rattle.store_read.proofs.Promising.{opened-within, refuses-4, reads-beyond, reads-listed}
+use Rattle.store.proofs.Opening.{opened-within}
+use Rattle.store_read.proofs.Promising.{refuses-4, reads-beyond, reads-listed}
 use Rattle.store_read.proofs.level.read_level.Statement.{statement}
 use Rattle.store_read.proofs.level.read_level.Tie as tie
 
