@@ -1,6 +1,6 @@
 -- What a reading back promises: with 4, of a level that there is not, and of a level that is listed. Assumes nothing.
 use mathlib.Core.Path.{_≡_, refl, sym, ap, _∙_}
-use mathlib.Core.Bool.{Bool, true, false, not, _&&_}
+use mathlib.Core.Bool.{true, false}
 use mathlib.Core.Logic.{inl}
 use Prim.Native.Nat.{ℕ, suc, _+_, _≤_, _<_}
 use mathlib.Core.List.{List, []}
@@ -8,23 +8,21 @@ use native.Mathlib.Omega.{arith}
 use native.Mathlib.Numerals.{add-one}
 use lib.ListN.{length, length-take, length-drop}
 use lib.Dec.{ltb}
-use borrow.Author.Tests.{lt-ltb, le-ltb, ltb-false, not-false}
-use Rattle.buffer.specs.Lists.{All, all, flat}
-use Rattle.buffer.proofs.Lists.{all-imp, all-tested, all-test}
+use borrow.Author.Tests.{lt-ltb, le-ltb}
+use Rattle.buffer.specs.Lists.{flat}
+use Rattle.buffer.proofs.Lists.{all-imp, all-test}
 use Rattle.buffer.proofs.Splice.{splice-nil}
-use Rattle.buffer.proofs.Tests.{and-left, and-right, and-both}
-use Rattle.rows.specs.Entry.{Entry, fitsRow}
+use Rattle.rows.specs.Entry.{Entry}
 use Rattle.rows.proofs.Sorted.{count-all}
-use Rattle.trie_theory.specs.Forest.{Key, Forest, keys}
+use Rattle.trie_theory.specs.Forest.{Key, keys}
 use Rattle.trie_theory.specs.Entries as Entries
 use Rattle.trie_theory.specs.Encode.{encode}
-use Rattle.entries.specs.Keys.{entryKey}
 use Rattle.trie_read.specs.Shape.{part}
 use Rattle.gather.specs.KeySlots.{hasSlot}
 use Rattle.gather.proofs.Filling.{entry-has}
 use Rattle.book.specs.Digits.{level}
-use Rattle.book.specs.Front.{Front, frontSize, frontOf, inLimits, need, capacity, noStore}
-use Rattle.book.specs.Book.{Book, Sound, formed, held, front}
+use Rattle.book.specs.Front.{Front, frontOf, noStore}
+use Rattle.book.specs.Book.{Book, Sound, held, front}
 use Rattle.book.specs.Tries.{Tries, tries}
 use Rattle.book.specs.Replies.{Reply, reply, result, readNumber}
 use Rattle.book.specs.Calls.{readLevel}
@@ -38,7 +36,9 @@ use Rattle.book.proofs.EntryKeys.{entry-back, entry-fits}
 use Rattle.book.proofs.OverTries.{level-for}
 use Rattle.book.proofs.FromTries.{read-tries}
 use Rattle.book.proofs.Good.{tries-good}
+use Rattle.store.specs.Opening.{Reads}
 use Rattle.store.specs.Parts.{numbered, PartOf}
+use Rattle.store.specs.declared.front.Front as Code
 use Rattle.store.proofs.Places.{good-regular}
 use Rattle.store_read.specs.Listings.{Level, readTrie, Listed}
 
