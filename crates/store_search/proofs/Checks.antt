@@ -1,7 +1,6 @@
 -- The numbers of a search, and what it promises with each. Assumes nothing.
 use mathlib.Core.Path.{_≡_, refl, sym, ap, _∙_}
-use mathlib.Core.Bool.{Bool, true, false, not, _||_}
-use mathlib.Core.Logic.{_⊎_}
+use mathlib.Core.Bool.{true, false, not, _||_}
 use Prim.Native.Nat.{ℕ, zero, suc, _≤_, _<_}
 use mathlib.Core.List.{List, [], _∷_}
 use native.Mathlib.Omega.{arith}
@@ -13,7 +12,6 @@ use Rattle.buffer.proofs.Tests.{or-left-false, or-right-false}
 use Rattle.matcher.specs.Form.{patternForm, patternNumber, isFine}
 use Rattle.matcher.specs.declared.form.Form.{Form}
 use Rattle.matcher.specs.declared.form.Form.the-variants.{Fine, TooLong, Malformed}
-use Rattle.rows.specs.Sizes.{rowSize}
 use Rattle.rows.specs.Order.{entryOrder}
 use Rattle.rows.proofs.Sorted.{length-sorted}
 use Rattle.entries.specs.Query.{Query, matchesEntry}
@@ -26,8 +24,8 @@ use Rattle.book.specs.Calls.{search}
 use Rattle.book.specs.Step.{step}
 use Rattle.book.specs.Image.{HoldsBook}
 use Rattle.book.specs.FromTries.{foundIn, searchTries}
-use Rattle.book.specs.Promises.{Accepted, NoRoom, Searches}
-use Rattle.book.proofs.Front.{Within, within}
+use Rattle.book.specs.Promises.{Searches}
+use Rattle.book.proofs.Front.{within}
 use Rattle.book.proofs.Numbers.{search-short}
 use Rattle.book.proofs.OneCall.{front-read}
 use Rattle.book.proofs.Listed.{length-pick, count-most}

@@ -1,13 +1,12 @@
 -- What a search finds in the tries of a store, one trie after another. Assumes nothing.
 use mathlib.Core.Path.{_≡_, refl, sym, ap, _∙_, subst}
-use mathlib.Core.Bool.{true}
-use Prim.Native.Nat.{ℕ, zero, suc, _+_, _*_, _^_, _≤_}
+use Prim.Native.Nat.{ℕ, zero, suc, _+_, _^_, _≤_}
 use mathlib.Core.List.{List, [], _∷_, _++_, append-assoc, append-nil, map}
 use native.Mathlib.Omega.{arith}
 use native.Mathlib.Numerals.{add-one}
 use lib.ListN.{length, take, length-append, length-map}
 use lib.Seq.{take-nil}
-use Rattle.buffer.specs.Lists.{All, nil, cons, all, sum, flat}
+use Rattle.buffer.specs.Lists.{All, nil, all, sum, flat}
 use Rattle.buffer.specs.Splice.{splice}
 use Rattle.buffer.proofs.Lists.{all-imp, all-append, all-pick, all-test, map-append}
 use Rattle.buffer.proofs.Splice.{splice-nil}

@@ -30,15 +30,12 @@ use Rattle.gather.proofs.Putting.{all-even, length-put}
 use Rattle.gather.proofs.Gathering.{all-take}
 use Rattle.search.specs.Steps.{keyRow}
 use Rattle.search.proofs.Finding.{length-row}
-use Rattle.book.specs.Front.{Front}
 use Rattle.book.specs.Tries.{Tries}
 use Rattle.book.specs.Searching.{nodesOf}
 use Rattle.book.specs.Replies.{Reply, reply, result}
 use Rattle.book.specs.Step.{fill, list}
-use Rattle.book.specs.Image.{Holds}
-use Rattle.book.specs.Good.{GoodTries}
 use Rattle.book.specs.FromTries.{keyEntry, foundIn, searchTries}
-use Rattle.book.specs.Promises.{Accepted, NoRoom}
+use Rattle.book.specs.Promises.{Accepted}
 use Rattle.store_search.specs.Listing.{TriesSearched, Overfull, Filled, Listed}
 use Rattle.store_search.proofs.Keys.{rowed}
 use Rattle.store_search.proofs.Found.{Finds, finds}

@@ -1,7 +1,7 @@
 -- The form of the pattern, then the range. Assumes nothing.
 use borrow.Author.Needs.{needs}
 use native.Mathlib.Omega.{arith}
-use mathlib.Core.Path.{_≡_, ap, _∙_}
+use mathlib.Core.Path.{ap, _∙_}
 use Rattle.matcher.specs.Form.{patternNumber}
 use Rattle.store_search.proofs.Checks.{pattern-refused, range-refused, query-fine, pattern-small}
 use Rattle.store_search.proofs.query.query_number.Statement.{statement}
