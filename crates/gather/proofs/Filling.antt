@@ -16,12 +16,13 @@ use Rattle.matcher.specs.Bytes.{pathLimit}
 use Rattle.rows.specs.Sizes.{valueSize, referenceSize, referenceAt, lengthAt, pathAt, rowSize}
 use Rattle.rows.specs.Entry.{Entry, row, fitsRow}
 use Rattle.rows.proofs.Rows.{fits}
+use Rattle.rows.proofs.Rows as Rows
 use Rattle.trie_theory.specs.Forest.{Key, join, under}
 use Rattle.trie_theory.specs.Strings.{at}
 use Rattle.entries.specs.Keys.{entryKey}
 use Rattle.entries.specs.Slots.{slotSize, slot, shortPath}
 use Rattle.trie_read.specs.Shape.{keyOf}
-use Rattle.gather.specs.KeySlots.{endedLimit, hasSlot, keySlot, known}
+use Rattle.gather.specs.KeySlots.{endedLimit, hasSlot, keySlot, keyRow, known}
 
 -- ---- a key with a slot
 
@@ -100,6 +101,10 @@ short-slot x h =
     let p = at 1 (x .strings) in
     rw (slot-parts x, parts-length (at 0 (x .strings)) (x .reference) p (w .value) (w .reference) (w .short)) (le-leb (length p - 1) pathLimit (omega (arith, w .short)))
 
+pub length-row : (x : Key) → hasSlot x ≡ true → length (keyRow x) ≡ rowSize
+unfolding keyRow
+length-row x h = length-take-le rowSize (keySlot x) (omega (arith, length-slot x h))
+
 -- what stands in a slot
 pub slot-value : (x : Key) → hasSlot x ≡ true → take valueSize (keySlot x) ≡ at 0 (x .strings)
 unfolding parts
@@ -136,6 +141,11 @@ unfolding entryKey keySlot slot row
 entry-slot e h =
     let n : length (e .path ++ (0 ∷ [])) - 1 ≡ length (e .path) = omega (arith, length-append (e .path) (0 ∷ [])) in
     rw (n, end-zeros (e .path) (fits e h .short)) (simp append-assoc)
+
+-- its row is the entry's
+pub entry-row : (e : Entry) → fitsRow e ≡ true → keyRow (entryKey e) ≡ row e
+unfolding keyRow slot
+entry-row e h = ap (take rowSize) (entry-slot e h) ∙ take-at (row e) _ rowSize (Rows.length-row e h)
 
 -- ---- what is known
 

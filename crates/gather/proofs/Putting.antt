@@ -1,5 +1,5 @@
--- Keys put one after another: what the steps of a walk together put. One set of laws for loops over suffixes and over siblings, for slots
--- and for rows. Assumes nothing.
+-- Things put one after another: what the steps of a walk together put. One set of laws for loops over suffixes and over siblings, for slots,
+-- for rows and for records. Assumes nothing.
 use mathlib.Core.Path.{_≡_, refl, sym, ap, _∙_}
 use mathlib.Core.Bool.{Bool, true, cond}
 use mathlib.Core.Logic.{_⊎_, inl, inr, ⊎-elim}
@@ -22,24 +22,24 @@ use Rattle.trie_theory.specs.Forest.{Key}
 use Rattle.trie_read.specs.Shape.{part}
 use Rattle.trie_read.proofs.Stretch.{length-part}
 use Rattle.gather.specs.KeySlots.{hasSlot, known}
-use Rattle.gather.specs.Walks.{joined, Put}
+use Rattle.gather.specs.Walks.{joined, PutBy}
 
--- ---- lists of keys
+-- ---- lists of things
 
 flat-append : (xs ys : List (List ℕ)) → flat (xs ++ ys) ≡ flat xs ++ flat ys
 unfolding flat
 flat-append [] ys = refl
 flat-append (x ∷ xs) ys = ap (λ (l : List ℕ). x ++ l) (flat-append xs ys) ∙ sym (append-assoc x (flat xs) (flat ys))
 
-pub joined-append : (g : Key → List ℕ) (xs ys : List Key) → joined g (xs ++ ys) ≡ joined g xs ++ joined g ys
+pub joined-append : {A : Type 0} (g : A → List ℕ) (xs ys : List A) → joined g (xs ++ ys) ≡ joined g xs ++ joined g ys
 unfolding joined
 joined-append g xs ys = ap flat (map-append g xs ys) ∙ flat-append (map g xs) (map g ys)
 
-joined-one : (g : Key → List ℕ) (x : Key) → joined g (x ∷ []) ≡ g x
+joined-one : {A : Type 0} (g : A → List ℕ) (x : A) → joined g (x ∷ []) ≡ g x
 unfolding joined flat
 joined-one g x = append-nil (g x)
 
-pub joined-none : (g : Key → List ℕ) → joined g [] ≡ []
+pub joined-none : {A : Type 0} (g : A → List ℕ) → joined g [] ≡ []
 unfolding joined flat
 joined-none g = refl
 
@@ -53,13 +53,13 @@ less? a b = elim (decLe b a) [ yes h ↦ inr h | no h ↦ inl (lt-of-not-le h) ]
 -- ---- the steps
 
 -- what tells nothing
-abbrev pub Nothing : List Key → Type 0
+abbrev pub Nothing : {A : Type 0} → List A → Type 0
 Nothing ks = ⊥
 
-module _ {g : Key → List ℕ} {v p out room : ℕ} where
+module _ {T : Type 0} {ok : T → Bool} {g : T → List ℕ} {v p out room : ℕ} where
   -- the same keys, told otherwise
-  pub put-as : {A B : List Key → Type 0} {n r : ℕ} {s k s' k' : List ℕ} (a : Put g A v p out room n s k s' k' r)
-      → ((ks : List Key) → B ks → a .put ≡ ks) → Put g B v p out room n s k s' k' r
+  pub put-as : {A B : List T → Type 0} {n r : ℕ} {s k s' k' : List ℕ} (a : PutBy ok g A v p out room n s k s' k' r)
+      → ((ks : List T) → B ks → a .put ≡ ks) → PutBy ok g B v p out room n s k s' k' r
   put-as a h =
       record {
         put = a .put;
@@ -72,9 +72,9 @@ module _ {g : Key → List ℕ} {v p out room : ℕ} where
         are = h;
       }
 
-  -- no key
-  unfoldable pub put-none : {A : List Key → Type 0} {n : ℕ} {s k k' : List ℕ} → known v p k' ≡ known v p k → ((ks : List Key) → A ks → ks ≡ [])
-      → Put g A v p out room n s k s k' n
+  -- none
+  unfoldable pub put-none : {A : List T → Type 0} {n : ℕ} {s k k' : List ℕ} → known v p k' ≡ known v p k → ((ks : List T) → A ks → ks ≡ [])
+      → PutBy ok g A v p out room n s k s k' n
   put-none {A} {n} {s} {k} {k'} kept h =
       record {
         put = [];
@@ -88,43 +88,43 @@ module _ {g : Key → List ℕ} {v p out room : ℕ} where
       }
 
   -- some, and then some
-  unfoldable pub put-then : {A B : List Key → Type 0} {n m r : ℕ} {s k s' k' s'' k'' : List ℕ}
-      → Put g A v p out room n s k s' k' m → Put g B v p out room m s' k' s'' k'' r → Put g Nothing v p out room n s k s'' k'' r
+  unfoldable pub put-then : {A B : List T → Type 0} {n m r : ℕ} {s k s' k' s'' k'' : List ℕ}
+      → PutBy ok g A v p out room n s k s' k' m → PutBy ok g B v p out room m s' k' s'' k'' r → PutBy ok g Nothing v p out room n s k s'' k'' r
   put-then {A} {B} {n} {m} {r} {s} {k} {s'} {k'} {s''} {k''} a b =
       record {
         put = a .put ++ b .put;
-        fit = all-both hasSlot (a .put) (b .put) (a .fit) (b .fit);
+        fit = all-both ok (a .put) (b .put) (a .fit) (b .fit);
         count = omega (arith, a .count, b .count, length-append (a .put) (b .put));
         long = b .long ∙ a .long;
         writes = λ s₀ done l c f e.
-            let q = b .writes s₀ (done ++ a .put) (omega (arith, a .long)) (omega (arith, a .count, length-append done (a .put))) (all-both hasSlot done (a .put) f (a .fit)) (a .writes s₀ done l c f e) in
+            let q = b .writes s₀ (done ++ a .put) (omega (arith, a .long)) (omega (arith, a .count, length-append done (a .put))) (all-both ok done (a .put) f (a .fit)) (a .writes s₀ done l c f e) in
             rw (append-assoc done (a .put) (b .put)) at q;
         front = b .front ∙ a .front;
         kept = b .kept ∙ a .kept;
         are = λ ks z. absurd z;
       }
 
--- one key, that has a slot: its bytes, of one width for all keys, are written if there is room
-module _ (g : Key → List ℕ) (w : ℕ) (even : (x : Key) → hasSlot x ≡ true → length (g x) ≡ w) where
-  pub all-even : (xs : List Key) → all hasSlot xs ≡ true → all (wide w) (map g xs) ≡ true
+-- one thing: its bytes, of one width for all, are written if there is room
+module _ {T : Type 0} {ok : T → Bool} (g : T → List ℕ) (w : ℕ) (even : (x : T) → ok x ≡ true → length (g x) ≡ w) where
+  pub all-even : (xs : List T) → all ok xs ≡ true → all (wide w) (map g xs) ≡ true
   all-even [] h = refl
   all-even (x ∷ xs) h =
-      and-both (eq-eqb (length (g x)) w (even x (and-left (hasSlot x) (all hasSlot xs) h))) (all-even xs (and-right (hasSlot x) (all hasSlot xs) h))
+      and-both (eq-eqb (length (g x)) w (even x (and-left (ok x) (all ok xs) h))) (all-even xs (and-right (ok x) (all ok xs) h))
 
-  pub length-put : (xs : List Key) → all hasSlot xs ≡ true → length (joined g xs) ≡ length xs * w
+  pub length-put : (xs : List T) → all ok xs ≡ true → length (joined g xs) ≡ length xs * w
   unfolding joined
   length-put xs h = length-joined w (map g xs) (all-even xs h) ∙ ap (λ (n : ℕ). n * w) (length-map xs g)
 
-  module _ (out room n : ℕ) (s s' : List ℕ) (x : Key) (has : hasSlot x ≡ true) (fits : out + room * w ≤ length s)
+  module _ (out room n : ℕ) (s s' : List ℕ) (x : T) (has : ok x ≡ true) (fits : out + room * w ≤ length s)
       (is : s' ≡ cond (ltb n room) (splice s (out + n * w) (g x)) s) where
-    more : (done : List Key) → all hasSlot done ≡ true → length done ≡ n → n < room → joined g (take room (done ++ (x ∷ []))) ≡ joined g (take room done) ++ g x
+    more : (done : List T) → all ok done ≡ true → length done ≡ n → n < room → joined g (take room (done ++ (x ∷ []))) ≡ joined g (take room done) ++ g x
     more done f c l =
         let m = length-append done (x ∷ []) in
         let a : take room (done ++ (x ∷ [])) ≡ done ++ (x ∷ []) = take-all room (done ++ (x ∷ [])) (omega arith) in
         let b : take room done ≡ done = take-all room done (omega arith) in
         rw (a, b, joined-append g done (x ∷ []), joined-one g x)
 
-    wrote-room : n < room → (s₀ : List ℕ) (done : List Key) → length s₀ ≡ length s → length done ≡ n → all hasSlot done ≡ true
+    wrote-room : n < room → (s₀ : List ℕ) (done : List T) → length s₀ ≡ length s → length done ≡ n → all ok done ≡ true
         → s ≡ splice s₀ out (joined g (take room done)) → s' ≡ splice s₀ out (joined g (take room (done ++ (x ∷ []))))
     wrote-room l s₀ done ls c f e =
         let b : take room done ≡ done = take-all room done (omega arith) in
@@ -135,13 +135,13 @@ module _ (g : Key → List ℕ) (w : ℕ) (even : (x : Key) → hasSlot x ≡ tr
         (splice-then s s₀ out (joined g (take room done)) (out + n * w) (g x) e (omega arith) (omega arith)
         ∙ ap (splice s₀ out) (sym (more done f c l)))
 
-    wrote-full : room ≤ n → (s₀ : List ℕ) (done : List Key) → length done ≡ n
+    wrote-full : room ≤ n → (s₀ : List ℕ) (done : List T) → length done ≡ n
         → s ≡ splice s₀ out (joined g (take room done)) → s' ≡ splice s₀ out (joined g (take room (done ++ (x ∷ []))))
     wrote-full l s₀ done c e =
         let h : room ≤ length done = omega arith in
         is ∙ rw (le-ltb n room l, take-append-le room done) e
 
-    pub put-one : {v p : ℕ} {k k' : List ℕ} → known v p k' ≡ known v p k → Put g (λ ks. ks ≡ x ∷ []) v p out room n s k s' k' (n + 1)
+    pub put-one : {v p : ℕ} {k k' : List ℕ} → known v p k' ≡ known v p k → PutBy ok g (λ ks. ks ≡ x ∷ []) v p out room n s k s' k' (n + 1)
     put-one kept =
         record {
           put = x ∷ [];
@@ -165,43 +165,46 @@ module _ (g : Key → List ℕ) (w : ℕ) (even : (x : Key) → hasSlot x ≡ tr
 
 -- ---- a loop
 
--- of the keys ks some are put, and those that `Left` tells are left
-pub record Rest (Left : List Key → Type 0) (put ks : List Key) : Type 0 where
-  pub more : List Key
+-- of the things ks some are put, and those that `Left` tells are left
+pub record Rest {T : Type 0} (Left : List T → Type 0) (put ks : List T) : Type 0 where
+  pub more : List T
   pub has : Left more
   pub all : put ++ more ≡ ks
 
-pub record Going (g : Key → List ℕ) (Has Left : List Key → Type 0) (v p out room n : ℕ) (s k s' k' : List ℕ) (m : ℕ) : Type 0 where
-  pub so : Put g Nothing v p out room n s k s' k' m
-  pub left : (ks : List Key) → Has ks → Rest Left (so .put) ks
+pub record GoingBy {T : Type 0} (ok : T → Bool) (g : T → List ℕ) (Has Left : List T → Type 0) (v p out room n : ℕ) (s k s' k' : List ℕ) (m : ℕ) : Type 0 where
+  pub so : PutBy ok g Nothing v p out room n s k s' k' m
+  pub left : (ks : List T) → Has ks → Rest Left (so .put) ks
 
--- keys in two parts
-pub record Two (A B : List Key → Type 0) (ks : List Key) : Type 0 where
-  pub first : List Key
-  pub second : List Key
+abbrev pub Going : (Key → List ℕ) → (List Key → Type 0) → (List Key → Type 0) → (v p out room n : ℕ) → (s k s' k' : List ℕ) → ℕ → Type 0
+Going = GoingBy hasSlot
+
+-- things in two parts
+pub record Two {T : Type 0} (A B : List T → Type 0) (ks : List T) : Type 0 where
+  pub first : List T
+  pub second : List T
   pub one : A first
   pub other : B second
   pub is : ks ≡ first ++ second
 
-module _ {g : Key → List ℕ} {Has : List Key → Type 0} {v p out room n : ℕ} {s k : List ℕ} where
-  pub going-from : {Left : List Key → Type 0} → ((ks : List Key) → Has ks → Left ks) → Going g Has Left v p out room n s k s k n
+module _ {T : Type 0} {ok : T → Bool} {g : T → List ℕ} {Has : List T → Type 0} {v p out room n : ℕ} {s k : List ℕ} where
+  pub going-from : {Left : List T → Type 0} → ((ks : List T) → Has ks → Left ks) → GoingBy ok g Has Left v p out room n s k s k n
   unfolding put-none
   going-from f = record { so = put-none refl (λ ks z. absurd z); left = λ ks h. record { more = ks; has = f ks h; all = refl } }
 
-  pub going-start : Going g Has Has v p out room n s k s k n
+  pub going-start : GoingBy ok g Has Has v p out room n s k s k n
   going-start = going-from (λ ks h. h)
 
-  module _ {Left : List Key → Type 0} {s' k' : List ℕ} {m : ℕ} (l : Going g Has Left v p out room n s k s' k' m) where
+  module _ {Left : List T → Type 0} {s' k' : List ℕ} {m : ℕ} (l : GoingBy ok g Has Left v p out room n s k s' k' m) where
     -- nothing is left
-    pub going-end : ((ks : List Key) → Left ks → ks ≡ []) → Put g Has v p out room n s k s' k' m
+    pub going-end : ((ks : List T) → Left ks → ks ≡ []) → PutBy ok g Has v p out room n s k s' k' m
     going-end h =
         put-as (l .so)
         (λ ks a. let r = l .left ks a in
-        sym (append-nil (l .so .put)) ∙ ap (λ (x : List Key). l .so .put ++ x) (sym (h (r .more) (r .has))) ∙ r .all)
+        sym (append-nil (l .so .put)) ∙ ap (λ (x : List T). l .so .put ++ x) (sym (h (r .more) (r .has))) ∙ r .all)
 
     -- the first of what is left is put
-    pub going-on : {Item Left′ : List Key → Type 0} {s'' k'' : List ℕ} {r : ℕ} → Put g Item v p out room m s' k' s'' k'' r
-        → ((ks : List Key) → Left ks → Two Item Left′ ks) → Going g Has Left′ v p out room n s k s'' k'' r
+    pub going-on : {Item Left′ : List T → Type 0} {s'' k'' : List ℕ} {r : ℕ} → PutBy ok g Item v p out room m s' k' s'' k'' r
+        → ((ks : List T) → Left ks → Two Item Left′ ks) → GoingBy ok g Has Left′ v p out room n s k s'' k'' r
     unfolding put-then
     going-on i split =
         record {
@@ -214,7 +217,7 @@ module _ {g : Key → List ℕ} {Has : List Key → Type 0} {v p out room n : �
                 has = t .other;
                 all =
                     append-assoc (l .so .put) (i .put) (t .second)
-                    ∙ ap (λ (x : List Key). l .so .put ++ x) (ap (λ (x : List Key). x ++ t .second) (i .are (t .first) (t .one)) ∙ sym (t .is))
+                    ∙ ap (λ (x : List T). l .so .put ++ x) (ap (λ (x : List T). x ++ t .second) (i .are (t .first) (t .one)) ∙ sym (t .is))
                     ∙ r .all;
               };
         }

@@ -6,7 +6,7 @@ use lib.ListN.{length, take, replicate}
 use lib.Dec.{eqb, leb, ltb}
 use Rattle.buffer.specs.Splice.{region}
 use Rattle.matcher.specs.Bytes.{pathLimit}
-use Rattle.rows.specs.Sizes.{valueSize, referenceSize, pathAt}
+use Rattle.rows.specs.Sizes.{valueSize, referenceSize, pathAt, rowSize}
 use Rattle.trie_theory.specs.Forest.{Strings, Key, under}
 use Rattle.trie_theory.specs.Strings.{at}
 use Rattle.entries.specs.Slots.{slotSize}
@@ -27,6 +27,10 @@ unfoldable pub keySlot : Key → List ℕ
 keySlot x =
     at 0 (x .strings)
     ++ (x .reference ++ ((length (at 1 (x .strings)) - 1) ∷ (at 1 (x .strings) ++ replicate (slotSize - pathAt - length (at 1 (x .strings))) 0)))
+
+-- its row
+unfoldable pub keyRow : Key → List ℕ
+keyRow x = take rowSize (keySlot x)
 
 -- the bytes known on the way down, v of the value and p of the path: they stand where a slot has them
 unfoldable pub known : ℕ → ℕ → List ℕ → Strings

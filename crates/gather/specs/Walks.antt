@@ -16,23 +16,27 @@ use Rattle.trie_read.specs.Shape.{Fixed, part}
 use Rattle.trie_read.specs.Suffixes.{suffixesBytes}
 use Rattle.gather.specs.KeySlots.{endedLimit, hasSlot, known}
 
--- the bytes of keys, one after another
-unfoldable pub joined : (Key → List ℕ) → List Key → List ℕ
+-- the bytes of keys or other things, one after another
+unfoldable pub joined : {A : Type 0} → (A → List ℕ) → List A → List ℕ
 joined g xs = flat (map g xs)
 
--- Keys are put: the counter goes from n to r, and s, which had the first `room` of n keys from `out` on, has the first `room` of these and the new
--- ones; before `out` it is the same, and so are the known bytes of the key buffer k. Where `Has` tells the keys, they are these.
-pub record Put (g : Key → List ℕ) (Has : List Key → Type 0) (v p out room n : ℕ) (s k s' k' : List ℕ) (r : ℕ) : Type 0 where
-  pub put : List Key
-  pub fit : all hasSlot put ≡ true
+-- Things that pass a test are put: the counter goes from n to r, and s, which had the first `room` of n things from `out` on, has the first `room` of
+-- these and the new ones; before `out` it is the same, and so are the known bytes of the key buffer k. Where `Has` tells the things, they are these.
+pub record PutBy {A : Type 0} (ok : A → Bool) (g : A → List ℕ) (Has : List A → Type 0) (v p out room n : ℕ) (s k s' k' : List ℕ) (r : ℕ) : Type 0 where
+  pub put : List A
+  pub fit : all ok put ≡ true
   pub count : r ≡ n + length put
   pub long : length s' ≡ length s
-  pub writes : (s₀ : List ℕ) (done : List Key) → length s₀ ≡ length s → length done ≡ n → all hasSlot done ≡ true
+  pub writes : (s₀ : List ℕ) (done : List A) → length s₀ ≡ length s → length done ≡ n → all ok done ≡ true
       → s ≡ splice s₀ out (joined g (take room done))
       → s' ≡ splice s₀ out (joined g (take room (done ++ put)))
   pub front : take out s' ≡ take out s
   pub kept : known v p k' ≡ known v p k
-  pub are : (ks : List Key) → Has ks → put ≡ ks
+  pub are : (ks : List A) → Has ks → put ≡ ks
+
+-- .. keys that have a slot
+abbrev pub Put : (Key → List ℕ) → (List Key → Type 0) → (v p out room n : ℕ) → (s k s' k' : List ℕ) → ℕ → Type 0
+Put = PutBy hasSlot
 
 -- the keys of suffixes in the bytes t, behind the bytes k, that have a slot
 pub record SuffixKeys (k : Strings) (t : List ℕ) (ks : List Key) : Type 0 where

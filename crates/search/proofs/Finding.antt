@@ -36,7 +36,8 @@ use Rattle.trie_read.proofs.Walking.{same?}
 use Rattle.trie_read.proofs.Stretch.{length-part}
 use Rattle.gather.specs.KeySlots.{endedLimit, hasSlot, keySlot, known, suffixKey}
 use Rattle.gather.specs.Walks.{Put}
-use Rattle.gather.proofs.Filling.{length-slot, known-less}
+use Rattle.gather.proofs.Filling.{known-less}
+pub use Rattle.gather.proofs.Filling.{length-row}
 use Rattle.gather.proofs.Putting.{put-none, put-then, put-one}
 use Rattle.gather.proofs.Splitting.{pick-one, pick-not, seen-key, leaf-high, inner-high}
 use Rattle.search.specs.Steps.{rootKind, over, takes, keyRow, Descended, Taken}
@@ -131,10 +132,6 @@ searched-none kept h =
     }
 
 -- ---- suffixes
-
-pub length-row : (x : Key) → hasSlot x ≡ true → length (keyRow x) ≡ rowSize
-unfolding keyRow
-length-row x h = length-take-le rowSize (keySlot x) (omega (arith, length-slot x h))
 
 takes-slot : (q : Query) (x : Key) → takes q x ≡ true → hasSlot x ≡ true
 unfolding takes

@@ -4,32 +4,23 @@ use mathlib.Core.Bool.{Bool, true, cond}
 use Prim.Native.Nat.{ℕ, _+_, _≤_}
 use mathlib.Core.List.{List, [], _∷_, _++_, map}
 use native.Mathlib.Omega.{arith}
-use lib.ListN.{length, take}
-use lib.Seq.{take-at}
+use lib.ListN.{length}
 use Rattle.buffer.specs.Lists.{all, pick}
 use Rattle.buffer.proofs.Tests.{and-left, and-right, and-both}
-use Rattle.rows.specs.Sizes.{rowSize, nodeLimit}
-use Rattle.rows.specs.Entry.{Entry, row, fitsRow}
-use Rattle.rows.proofs.Rows.{length-row}
+use Rattle.rows.specs.Sizes.{nodeLimit}
 use Rattle.trie_theory.specs.Forest.{Strings, Key, Forest, none, leaf, inner, join, under, keys, tops}
 use Rattle.trie_theory.specs.Dimensions.{Above, root, below}
 use Rattle.trie_theory.specs.Sound.{Sound}
 use Rattle.trie_theory.specs.Search.{enters, found, nodesEntered}
 use Rattle.trie_theory.specs.Encode.{Regular}
-use Rattle.entries.specs.Keys.{entryKey}
-use Rattle.entries.specs.Slots.{slot}
 use Rattle.entries.specs.Query.{Query, reaches, wants}
 use Rattle.gather.specs.KeySlots.{hasSlot, known}
-use Rattle.gather.proofs.Filling.{slotted, entry-slot}
+use Rattle.gather.proofs.Filling.{slotted}
+pub use Rattle.gather.proofs.Filling.{entry-row}
 use Rattle.gather.proofs.Gathering.{known-nothing}
 use Rattle.gather.proofs.Splitting.{join-longer, blank, keys-root}
-use Rattle.search.specs.Steps.{rootKind, over, takes, keyRow}
+use Rattle.search.specs.Steps.{rootKind, over, takes}
 use Rattle.search.specs.Searches.{Searched, TrieSearched, TrieFound, BodyFound, Short, Roomy}
-
--- the row of an entry's key is the entry's
-pub entry-row : (e : Entry) → fitsRow e ≡ true → keyRow (entryKey e) ≡ row e
-unfolding keyRow slot
-entry-row e h = ap (take rowSize) (entry-slot e h) ∙ take-at (row e) _ rowSize (length-row e h)
 
 all-first : {A : Type 0} (t : A → Bool) (xs ys : List A) → all t (xs ++ ys) ≡ true → all t xs ≡ true
 all-first t [] ys h = refl

@@ -3,17 +3,17 @@ use Prim.Native.Nat.{ℕ, _+_, _-_}
 use mathlib.Core.Path.{_≡_}
 use mathlib.Core.Bool.{Bool, true, cond, _&&_}
 use mathlib.Core.List.{List, [], _∷_}
-use lib.ListN.{take}
 use lib.Dec.{eqb, leb}
 use Rattle.matcher.specs.declared.reach.Answer.{Answer}
 use Rattle.matcher.specs.declared.reach.Answer.the-variants.{Match, Mismatch, Incomplete}
-use Rattle.rows.specs.Sizes.{valueSize, rowSize}
+use Rattle.rows.specs.Sizes.{valueSize}
 use Rattle.trie_theory.specs.Forest.{Key, join}
 use Rattle.trie_theory.specs.Dimensions.{Above, root, below}
 use Rattle.trie_theory.specs.Search.{enters}
 use Rattle.entries.specs.Query.{Query, reaches, wants}
 use Rattle.trie_read.specs.Shape.{part}
 use Rattle.gather.specs.KeySlots.{endedLimit, hasSlot, keySlot, known, suffixKey}
+unfoldable pub use Rattle.gather.specs.KeySlots.{keyRow}
 
 -- the answer of both dimensions together
 abbrev pub both : Answer → Answer → Answer
@@ -34,10 +34,6 @@ over kind = cond (eqb kind rootKind) root (below (kind - 1))
 -- a search takes the keys that match; on bytes that are no sound trie's, of those that have a slot
 unfoldable pub takes : Query → Key → Bool
 takes q x = hasSlot x && wants q x
-
--- the row of a key
-unfoldable pub keyRow : Key → List ℕ
-keyRow x = take rowSize (keySlot x)
 
 -- The step to a node of the bytes t, whose strings are t[7..path] and t[path..body]: its strings have room behind the known bytes, and a search enters it
 pub record Descended (q : Query) (kind v p : ℕ) (t : List ℕ) (path body : ℕ) (k k' : List ℕ) (r : Bool) : Type 0 where

@@ -1,0 +1,77 @@
+-- What the walk of a whole trie writes: the records of its keys. Assumes nothing.
+use Prim.Native.Nat.{ℕ, zero, suc, _+_, _*_, _≤_}
+use mathlib.Core.Path.{_≡_, refl, sym, ap, ap₂, _∙_}
+use mathlib.Core.Bool.{Bool, true}
+use mathlib.Core.List.{List, [], _∷_, _++_, map}
+use native.Mathlib.Omega.{arith}
+use lib.ListN.{length, take}
+use Rattle.buffer.specs.Lists.{all, pick, flat}
+use Rattle.buffer.specs.Splice.{splice}
+use Rattle.buffer.proofs.Splice.{splice-nil}
+use Rattle.buffer.proofs.Tests.{and-left, and-right}
+use Rattle.rows.specs.Sizes.{nodeLimit}
+use Rattle.trie_theory.specs.Forest.{Strings, Key, Forest, keys}
+use Rattle.trie_theory.specs.Dimensions.{root}
+use Rattle.trie_theory.specs.Walk.{Step, walk}
+use Rattle.book.specs.Records.{stepBytes, walkBytes}
+use Rattle.gather.specs.KeySlots.{hasSlot, keyRow, known}
+use Rattle.gather.specs.Walks.{joined}
+use Rattle.gather.proofs.Putting.{joined-none}
+use Rattle.gather.proofs.Gathering.{known-nothing}
+use Rattle.gather.proofs.Splitting.{keys-root}
+use Rattle.read_back.specs.Readings.{recordBytes, trieRecord, TrieBytes, TrieRead}
+use Rattle.read_back.specs.Walks.{Written, keyRecord, recordsBelow, BodyRecords}
+use Rattle.read_back.proofs.Ways.{wayRecord, records-walk, walk-root}
+
+joined-flat : (rs : List (List ℕ)) → joined (λ x. x) rs ≡ flat rs
+unfolding joined
+joined-flat rs = ap flat (same rs)
+  where
+    same : (rs : List (List ℕ)) → map (λ x. x) rs ≡ rs
+    same [] = refl
+    same (r ∷ rs) = ap (λ (l : List (List ℕ)). r ∷ l) (same rs)
+
+none-joined : (m : ℕ) → joined (λ (x : List ℕ). x) (take m []) ≡ []
+none-joined zero = joined-none (λ x. x)
+none-joined (suc m) = joined-none (λ x. x)
+
+pick-all : (xs : List Key) → all hasSlot xs ≡ true → pick hasSlot xs ≡ xs
+unfolding pick
+pick-all [] h = refl
+pick-all (x ∷ xs) h = rw (and-left (hasSlot x) (all hasSlot xs) h) (ap (λ (l : List Key). x ∷ l) (pick-all xs (and-right (hasSlot x) (all hasSlot xs) h)))
+
+map-each : {A B : Type 0} (f g : A → B) → ((x : A) → f x ≡ g x) → (xs : List A) → map f xs ≡ map g xs
+map-each f g h [] = refl
+map-each f g h (x ∷ xs) = ap₂ _∷_ (h x) (map-each f g h xs)
+
+-- below no node the record has the nodes of the key's walk
+whole-way : (f : Forest) (x : Key) → wayRecord 0 [] (walk [] f x) x ≡ trieRecord f x
+unfolding wayRecord keyRecord recordBytes trieRecord keyRow walkBytes
+whole-way f x = let z : 0 + length (walk [] f x) ≡ length (walk [] f x) = omega arith in rw z
+
+whole : (f : Forest) {t : List ℕ} → TrieBytes t f → recordsBelow 0 [] ([] ∷ [] ∷ []) f ≡ map (trieRecord f) (keys [] f)
+whole f b =
+    records-walk root 0 [] ([] ∷ [] ∷ []) f refl (b .sound)
+    ∙ ap (map (λ x. wayRecord 0 [] (walk ([] ∷ [] ∷ []) f x) x)) (ap (pick hasSlot) (keys-root f (b .regular)) ∙ pick-all (keys [] f) (b .slots))
+    ∙ map-each (λ x. wayRecord 0 [] (walk ([] ∷ [] ∷ []) f x) x) (trieRecord f)
+    (λ x. ap (λ (l : List Step). wayRecord 0 [] l x) (walk-root f x (b .regular)) ∙ whole-way f x) (keys [] f)
+
+pub trie-read : {t : List ℕ} {room : ℕ} {s k s' k' : List ℕ} {r : ℕ} → Written (BodyRecords 1 0 [] (known 0 0 k) t) 0 0 room 0 s k s' k' r
+    → r ≤ 0 + length t → TrieRead t room s s' r
+trie-read {t} {room} {s} {k} {s'} {k'} {r} i few =
+    record {
+      put = i .put;
+      fit = i .fit;
+      count = omega (arith, i .count);
+      few = omega arith;
+      long = i .long;
+      writes =
+          i .writes s [] refl refl refl (sym (ap (splice s 0) (none-joined room) ∙ splice-nil s 0))
+          ∙ ap (splice s 0) (joined-flat (take room (i .put)));
+      are = λ f b.
+          i .are (map (trieRecord f) (keys [] f))
+          record {
+            leaf = λ z. absurd (omega arith);
+            inner = λ z. record { tries = f; regular = b .regular; high = omega (arith, b .high); bytes = b .bytes; is = sym (ap (λ (l : Strings). recordsBelow 0 [] l f) (known-nothing k) ∙ whole f b) };
+          };
+    }

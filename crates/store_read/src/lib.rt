@@ -1,0 +1,3 @@
+// Reading a level of a store back.
+pub mod level;
+pub mod listing;
