@@ -6,7 +6,8 @@ use mathlib.Core.List.{List}
 use native.Mathlib.Omega.{arith}
 use lib.ListN.{length}
 use lib.Dec.{ltb}
-use borrow.Author.Tests.{lt-ltb, le-ltb}
+use borrow.Author.Tests.{lt-ltb, le-ltb, ltb-false, not-false}
+use Rattle.buffer.proofs.Tests.{or-left-false, or-right-false}
 use native.Mathlib.Nat.{mul-le-mul}
 use lib.Pow.{pow-pos}
 use Rattle.book.proofs.Front.{Within, within, too-short}
@@ -64,3 +65,20 @@ module _ (s : List ℕ) (g : Code.Front) (r : Reads s g) where
       → noStore (length s) f ≡ false
   opened n p a w e k q h =
       a-store (length s) f a (limits true w) (rw (← r .m-is, ← r .l-is, ← e) k) (rw (r .m-is, r .l-is, r .held-is) at (rw q at h))
+
+-- what a store is that is not 4
+module _ (s : List ℕ) (g : Code.Front) (r : Reads s g) (h : noStore (length s) (frontOf s) ≡ false) where
+  is-store : (inLimits (frontOf s .M) (frontOf s .L) (frontOf s .τ) ≡ true) × (need (frontOf s .M) (frontOf s .L) ≤ length s)
+  unfolding noStore
+  is-store =
+      let f = frontOf s in
+      let n = length s in
+      let a = ltb n frontSize in
+      let b = not (inLimits (f .M) (f .L) (f .τ)) in
+      let c = ltb n (need (f .M) (f .L)) in
+      let d = ltb (capacity (f .M) (f .L)) (f .held) in
+      let abc = or-left-false (a || b || c) d h in
+      (not-false (inLimits (f .M) (f .L) (f .τ)) (or-right-false a b (or-left-false (a || b) c abc)), ltb-false n (need (f .M) (f .L)) (or-right-false (a || b) c abc))
+
+  pub opened-within : (g .m ≤ 4096) × (g .l ≤ 8) × (need (g .m) (g .l) ≤ length s)
+  opened-within = let w = within _ _ _ (is-store .0) in rw (r .m-is, r .l-is) (w .m-high, w .l-high, is-store .1)

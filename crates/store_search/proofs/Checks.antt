@@ -1,21 +1,20 @@
 -- The numbers of a search, and what it promises with each. Assumes nothing.
 use mathlib.Core.Path.{_≡_, refl, sym, ap, _∙_}
-use mathlib.Core.Bool.{true, false, not, _||_}
+use mathlib.Core.Bool.{true, false}
 use Prim.Native.Nat.{ℕ, zero, suc, _≤_, _<_}
 use mathlib.Core.List.{List, [], _∷_}
 use native.Mathlib.Omega.{arith}
 use lib.ListN.{length}
 use lib.Dec.{ltb}
-use borrow.Author.Tests.{lt-ltb, le-ltb, ltb-false, not-false}
+use borrow.Author.Tests.{lt-ltb, le-ltb}
 use Rattle.buffer.specs.Lists.{pick}
-use Rattle.buffer.proofs.Tests.{or-left-false, or-right-false}
 use Rattle.matcher.specs.Form.{patternForm, patternNumber, isFine}
 use Rattle.matcher.specs.declared.form.Form.{Form}
 use Rattle.matcher.specs.declared.form.Form.the-variants.{Fine, TooLong, Malformed}
 use Rattle.rows.specs.Order.{entryOrder}
 use Rattle.rows.proofs.Sorted.{length-sorted}
 use Rattle.entries.specs.Query.{Query, matchesEntry}
-use Rattle.book.specs.Front.{Front, frontSize, frontOf, inLimits, need, capacity, noStore}
+use Rattle.book.specs.Front.{Front, frontOf, noStore}
 use Rattle.book.specs.Book.{Book, Sound, held, front}
 use Rattle.book.specs.Tries.{tries}
 use Rattle.book.specs.Searching.{matching}
@@ -25,7 +24,6 @@ use Rattle.book.specs.Step.{step}
 use Rattle.book.specs.Image.{HoldsBook}
 use Rattle.book.specs.FromTries.{foundIn, searchTries}
 use Rattle.book.specs.Promises.{Searches}
-use Rattle.book.proofs.Front.{within}
 use Rattle.book.proofs.Numbers.{search-short}
 use Rattle.book.proofs.OneCall.{front-read}
 use Rattle.book.proofs.Listed.{length-pick, count-most}
@@ -81,24 +79,6 @@ accepted-query q n e h = omega arith
 search-number : (n : ℕ) (f : Front) (q : Query) → noStore n f ≡ false → searchNumber n f q ≡ queryNumber q
 unfolding searchNumber queryNumber
 search-number n f q h = rw h
-
--- ---- what a store is that is not 4
-
-module _ (s : List ℕ) (g : Code.Front) (r : Reads s g) (h : noStore (length s) (frontOf s) ≡ false) where
-  is-store : (inLimits (frontOf s .M) (frontOf s .L) (frontOf s .τ) ≡ true) × (need (frontOf s .M) (frontOf s .L) ≤ length s)
-  unfolding noStore
-  is-store =
-      let f = frontOf s in
-      let n = length s in
-      let a = ltb n frontSize in
-      let b = not (inLimits (f .M) (f .L) (f .τ)) in
-      let c = ltb n (need (f .M) (f .L)) in
-      let d = ltb (capacity (f .M) (f .L)) (f .held) in
-      let abc = or-left-false (a || b || c) d h in
-      (not-false (inLimits (f .M) (f .L) (f .τ)) (or-right-false a b (or-left-false (a || b) c abc)), ltb-false n (need (f .M) (f .L)) (or-right-false (a || b) c abc))
-
-  pub opened-within : (g .m ≤ 4096) × (g .l ≤ 8) × (need (g .m) (g .l) ≤ length s)
-  opened-within = let w = within _ _ _ (is-store .0) in rw (r .m-is, r .l-is) (w .m-high, w .l-high, is-store .1)
 
 -- ---- the promise
 

@@ -2,8 +2,9 @@
 use borrow.Author.Needs.{needs}
 use native.Mathlib.Omega.{arith}
 use Rattle.store.specs.Opening.{OpenedAs}
+use Rattle.store.proofs.Opening.{opened-within}
 use Rattle.store.specs.declared.front.Opened.the-variants.{Store}
-use Rattle.store_search.proofs.Checks.{fine-pattern, accepted-query, opened-within, refuses-4, refuses-query, lists}
+use Rattle.store_search.proofs.Checks.{fine-pattern, accepted-query, refuses-4, refuses-query, lists}
 use Rattle.store_search.proofs.query.search.Statement.{statement}
 use Rattle.store_search.proofs.query.search.Tie as tie
 use Rattle.store_search.proofs.query.search.Reads as reads
