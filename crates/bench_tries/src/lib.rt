@@ -1,7 +1,7 @@
 // Exports for measuring crate `trie_add` from outside (bench/tries). They test what the callee requires and otherwise do nothing.
 use rows::sizes::NODE_LIMIT;
 use rows::sizes::REFERENCE_SIZE;
-use trie_read::sizes::FRONT_SIZE;
+use trie_read::sizes::HEAD_SIZE;
 use trie_read::sizes::LEAF_SIZE;
 
 // Adds a key to the trie in the first `used` bytes, and returns by how many bytes it is longer.
@@ -28,7 +28,7 @@ pub extern "C" fn bench_add(
     if s.len() < used {
         return 0;
     }
-    if s.len() - used < FRONT_SIZE + LEAF_SIZE + value.len() + path.len() {
+    if s.len() - used < HEAD_SIZE + LEAF_SIZE + value.len() + path.len() {
         return 0;
     }
     trie_add::add::add(s, 0, used, used, 0, NODE_LIMIT, value, path, reference)

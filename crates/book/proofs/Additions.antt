@@ -26,7 +26,7 @@ use Rattle.book.proofs.Digits.{begin, below}
 use Rattle.book.proofs.Overflow.{stays, overflows, ones, round-full}
 use Rattle.book.proofs.Keys.{fits-rows}
 use Rattle.book.proofs.Book.{all-snoc}
-use Rattle.book.proofs.Image.{all-drop}
+use Rattle.buffer.proofs.Lists.{tested-drop}
 use Rattle.book.proofs.Listed.{count-append}
 use Rattle.book.proofs.OverTries.{kept-count, count-none, none-count}
 
@@ -50,7 +50,7 @@ unfolding levelTrie
 level-decided τ xs ys p q c = ap (λ (l : List Entry). levelOf 2 τ (map entryKey l)) (entries-decided xs ys p q c)
 
 highest-formed : (m l : ℕ) (es : List Entry) → all formed es ≡ true → all formed (fromHighest m l es) ≡ true
-highest-formed m l es a = subst (λ (x : List Entry). all formed x ≡ true) (below m l es) (all-drop formed (begin m l (rounds m es)) es a)
+highest-formed m l es a = subst (λ (x : List Entry). all formed x ≡ true) (below m l es) (tested-drop formed (begin m l (rounds m es)) es a)
 
 -- ---- the small trie stays below M entries
 

@@ -2,14 +2,15 @@
 -- entries, and has 1,024.
 use Prim.Native.Nat.{ℕ, zero, suc, _*_, _-_, _^_, _≤_, _<_}
 use mathlib.Core.Path.{_≡_, sym, ap, _∙_, subst}
-use mathlib.Core.Bool.{Bool, true}
+use mathlib.Core.Bool.{true}
 use mathlib.Core.List.{List, _++_, append-assoc, map}
 use native.Mathlib.Omega.{arith}
 use native.Mathlib.Nat.{mul-assoc, mul-one, pow-suc, pow-zero, mod-lt, mul-le-mul-left}
-use lib.ListN.{length, take, drop, replicate, length-append, length-replicate, length-map, take-append-drop}
+use lib.ListN.{length, take, drop, replicate, length-append, length-map}
 use lib.Seq.{take-at}
 use Rattle.buffer.specs.Lists.{all}
-use Rattle.buffer.proofs.Lists.{all-tested, all-test, all-left, all-right}
+use Rattle.buffer.proofs.Lists.{tested-take, tested-drop}
+pub use Rattle.buffer.proofs.Lists.{length-padded}
 use Rattle.rows.specs.Entry.{Entry}
 use Rattle.rows.specs.Order.{entryOrder}
 use Rattle.rows.specs.Sorted.{sorted}
@@ -31,21 +32,13 @@ use Rattle.book.proofs.Keys.{keys-entries}
 
 -- ---- the entries of a trie
 
-pub all-drop : {A : Type 0} (f : A → Bool) (n : ℕ) (xs : List A) → all f xs ≡ true → all f (drop n xs) ≡ true
-all-drop f n xs a =
-    all-test f (all-right (take n xs) (drop n xs) (all-tested f (take n xs ++ drop n xs) (ap (all f) (take-append-drop n xs) ∙ a)))
-
-all-take : {A : Type 0} (f : A → Bool) (n : ℕ) (xs : List A) → all f xs ≡ true → all f (take n xs) ≡ true
-all-take f n xs a =
-    all-test f (all-left (take n xs) (drop n xs) (all-tested f (take n xs ++ drop n xs) (ap (all f) (take-append-drop n xs) ∙ a)))
-
 pub level-formed : (m i : ℕ) (es : List Entry) → all formed es ≡ true → all formed (level m i es) ≡ true
 unfolding level
-level-formed m i es a = all-take formed (levelSize m i es) (drop (levelStart m i es) es) (all-drop formed (levelStart m i es) es a)
+level-formed m i es a = tested-take formed (levelSize m i es) (drop (levelStart m i es) es) (tested-drop formed (levelStart m i es) es a)
 
 pub small-formed : (m : ℕ) (es : List Entry) → all formed es ≡ true → all formed (small m es) ≡ true
 unfolding small
-small-formed m es a = all-drop formed (m * rounds m es) es a
+small-formed m es a = tested-drop formed (m * rounds m es) es a
 
 -- a level has no more entries than its region has kilobytes
 pub level-few : (m i : ℕ) (es : List Entry) → length (level m i es) ≤ m * 2 ^ i
@@ -77,10 +70,6 @@ module _ (es : List Entry) (h : all formed es ≡ true) where
 pub record Fit (m l : ℕ) (t : Tries) : Type 0 where
   pub small : length (encode (t .small)) ≤ entryRoom * m
   pub levels : (i : ℕ) → i < l → length (encode (t .level i)) ≤ entryRoom * m * 2 ^ i
-
-pub length-padded : (n : ℕ) (bs : List ℕ) → length bs ≤ n → length (padded n bs) ≡ n
-unfolding padded
-length-padded n bs h = length-append bs (replicate (n - length bs) 0) ∙ rw (length-replicate {A = ℕ} (n - length bs) 0) (omega arith)
 
 -- the small trie and the levels below l end where level l begins
 pub length-regions : (m l : ℕ) (t : Tries) → Fit m l t → length (regions m l t) ≡ entryRoom * m * 2 ^ l

@@ -74,7 +74,7 @@ list-second width rows answer = go (ltb (length answer) (length rows * width))
 
 -- ---- search
 
-matching-fits : (q : Query) (b : Book) → Sound b → all fitsRow (matching q (b .entries)) ≡ true
+pub matching-fits : (q : Query) (b : Book) → Sound b → all fitsRow (matching q (b .entries)) ≡ true
 unfolding matching
 matching-fits q b s =
     all-sorted entryOrder fitsRow (pick (matchesEntry q) (b .entries))

@@ -5,11 +5,10 @@ use mathlib.Core.Path.{_≡_, refl, sym, ap, ap₂, _∙_, subst}
 use mathlib.Core.Bool.{Bool, true, false, not, cond, _&&_, _||_}
 use mathlib.Core.List.{List, [], _∷_, _++_, map}
 use native.Mathlib.Omega.{arith}
-use lib.Dec.{eqb}
 use Rattle.trie_theory.specs.Encode.{Twenty}
-use Rattle.buffer.specs.Lists.{All, nil, cons, all, any, pick, sum, count, flat, same}
-use Rattle.buffer.proofs.Tests.{and-left, and-right, and-both, bool-ext}
-use Rattle.buffer.proofs.Lists.{all-imp, all-tested, all-test, any-append, bytes-true, bytes-refl, strings-true, strings-refl, all-append, all-every, all-pick, pick-append}
+use Rattle.buffer.specs.Lists.{All, nil, cons, all, any, pick, sum, count, flat}
+use Rattle.buffer.proofs.Tests.{and-both, bool-ext}
+use Rattle.buffer.proofs.Lists.{all-imp, all-tested, all-test, any-append, bytes-refl, strings-refl, all-append, all-every, all-pick, pick-append}
 use Rattle.buffer.proofs.Sums.{count-sum, sum-append, sum-map, sum-equal}
 use Rattle.rows.specs.Entry.{Entry, sameEntry, fitsRow}
 use Rattle.rows.specs.Order.{entryOrder}
@@ -19,6 +18,7 @@ use Rattle.rows.proofs.Rows.{same-entry, entries-decided}
 use Rattle.trie_theory.specs.Forest.{Key, Forest, keys}
 use Rattle.trie_theory.specs.Dimensions.{root}
 use Rattle.trie_theory.specs.Lookup.{sameKey, among, member}
+use Rattle.trie_theory.proofs.Lookup.{sameKey-true}
 use Rattle.trie_theory.specs.Search.{found, nodesEntered, admitted}
 use Rattle.trie_theory.specs.TrieOf.{TrieOf}
 use Rattle.trie_theory.specs.Entries as Dimensions
@@ -87,14 +87,8 @@ none-count t (cons {x = x} {xs = xs} h a) = rw h (none-count t a)
 sameKey-entry : (e d : Entry) → sameKey (entryKey e) (entryKey d) ≡ sameEntry e d
 sameKey-entry e d = bool-ext (sameKey (entryKey e) (entryKey d)) (sameEntry e d) forth back
   where
-    key-equal : (x y : Key) → sameKey x y ≡ true → x ≡ y
-    key-equal x y h = λ i. record { strings = strings-true (x .strings) (y .strings) (parts .0) i; reference = bytes-true (x .reference) (y .reference) (parts .1) i }
-      where
-        parts : (same (same eqb) (x .strings) (y .strings) ≡ true) × (same eqb (x .reference) (y .reference) ≡ true)
-        parts = unfold sameKey in (and-left (same (same eqb) (x .strings) (y .strings)) (same eqb (x .reference) (y .reference)) h, and-right (same (same eqb) (x .strings) (y .strings)) (same eqb (x .reference) (y .reference)) h)
-
     forth : sameKey (entryKey e) (entryKey d) ≡ true → sameEntry e d ≡ true
-    forth h = subst (λ (x : Entry). sameEntry e x ≡ true) (sym (key-entry e) ∙ ap keyEntry (key-equal (entryKey e) (entryKey d) h) ∙ key-entry d) (same-entry .self e)
+    forth h = subst (λ (x : Entry). sameEntry e x ≡ true) (sym (key-entry e) ∙ ap keyEntry (sameKey-true (entryKey e) (entryKey d) h) ∙ key-entry d) (same-entry .self e)
 
     back : sameEntry e d ≡ true → sameKey (entryKey e) (entryKey d) ≡ true
     back h = subst (λ (x : Entry). sameKey (entryKey e) (entryKey x) ≡ true) (same-entry .equal e d h) (unfold sameKey in and-both (strings-refl (entryKey e .strings)) (bytes-refl (entryKey e .reference)))

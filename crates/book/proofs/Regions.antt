@@ -12,6 +12,7 @@ use Rattle.buffer.specs.Splice.{splice, region}
 use Rattle.buffer.specs.Numbers.{bytesOf}
 use Rattle.buffer.proofs.Splice.{splice-is, length-splice, region-drop}
 use Rattle.trie_theory.specs.Encode.{encode}
+pub use Rattle.book.specs.Front.{heldAt}
 use Rattle.book.specs.Front.{Front, frontSize, frontRoom, entryRoom, frontBytes, need}
 use Rattle.book.specs.Tries.{Tries}
 use Rattle.book.specs.Image.{padded, regions, storeOf, Holds}
@@ -152,9 +153,6 @@ module _ (f : Front) (t : Tries) where
         ∙ sym (Rattle.book.proofs.Regions.at-level f t′ i h)
 
 -- the held number, in its four bytes
-abbrev pub heldAt : ℕ
-heldAt = 12
-
 abbrev pub holding : ℕ → Front → Front
 holding n f = record { M = f .M; L = f .L; τ = f .τ; held = n }
 

@@ -13,13 +13,14 @@ use Rattle.buffer.specs.Lists.{All, nil, cons, all, flat}
 use Rattle.buffer.specs.Splice.{region}
 use Rattle.buffer.specs.Numbers.{bytesOf, number}
 use Rattle.buffer.proofs.Tests.{and-left, and-right}
-use Rattle.buffer.proofs.Lists.{all-tested, all-test, all-left, all-right, all-head}
+use Rattle.buffer.proofs.Lists.{tested-left, tested-right}
 use Rattle.buffer.proofs.Digits.{number-bytesOf}
-use Rattle.trie_theory.specs.Forest.{Strings, Key, Forest, none, leaf, inner, tops}
-use Rattle.trie_theory.specs.Dimensions.{root, branching}
+use Rattle.trie_theory.specs.Forest.{Strings, Key, Forest, none, leaf, inner}
+use Rattle.trie_theory.specs.Dimensions.{root}
 use Rattle.trie_theory.specs.Sound as Trie
 use Rattle.trie_theory.specs.Sound.{Wide}
 use Rattle.trie_theory.specs.Encode.{suffixBytes, nodeBytes, encode, Twenty, Regular}
+use Rattle.trie_theory.proofs.SoundLaws.{root-alone}
 use Rattle.trie_theory.proofs.Encode.{sound-regular, node-parts, encode-injective}
 use Rattle.rows.specs.Entry.{Entry}
 use Rattle.book.specs.Front.{Front, entryRoom}
@@ -45,7 +46,7 @@ number-zero (c ∷ s) e =
     rw (← z, number-zero s (and-right (eqb 0 c) (all (eqb 0) s) e), zero-mul (256 ^ length s))
 
 part-zeros : (a b : List ℕ) → all (eqb 0) (a ++ b) ≡ true → (all (eqb 0) a ≡ true) × (all (eqb 0) b ≡ true)
-part-zeros a b e = (all-test (eqb 0) (all-left a b (all-tested (eqb 0) (a ++ b) e)), all-test (eqb 0) (all-right a b (all-tested (eqb 0) (a ++ b) e)))
+part-zeros a b e = (tested-left (eqb 0) a b e, tested-right (eqb 0) a b e)
 
 -- ---- a trie's root, leaf or inner node
 
@@ -56,13 +57,6 @@ record Rooted (n : ℕ) (f : Forest) : Type 0 where
   bytes : encode f ≡ nodeBytes kind strings body
   wide : length strings ≡ n
   seen : kind ≡ 0 → 0 < length body
-
--- at the root there is one trie
-no-sibling : (n : ℕ) (s : Strings) (more : Forest) → Trie.Node n root s more → more ≡ none
-unfolding tops branching
-no-sibling n s none h = refl
-no-sibling n s (leaf t ts more) h = absurd (all-head (h .apart) refl)
-no-sibling n s (inner d t kids more) h = absurd (all-head (h .apart) refl)
 
 suffix-long : (n : ℕ) (t : Key) → Wide n t × Twenty t → 20 ≤ length (suffixBytes t)
 unfolding suffixBytes
@@ -82,7 +76,7 @@ rooted n (leaf t ts more) s r =
       kind = 0;
       strings = t;
       body = flat (map suffixBytes ts);
-      bytes = ap (λ (f : Forest). nodeBytes 0 t (flat (map suffixBytes ts)) ++ encode f) (no-sibling n t more (s .0)) ∙ append-nil (nodeBytes 0 t (flat (map suffixBytes ts)));
+      bytes = ap (λ (f : Forest). nodeBytes 0 t (flat (map suffixBytes ts)) ++ encode f) (root-alone n t more (s .0)) ∙ append-nil (nodeBytes 0 t (flat (map suffixBytes ts)));
       wide = r .0;
       seen = λ z. suffixes-long n (s .1) (r .1);
     })
@@ -91,7 +85,7 @@ rooted n (inner d t kids more) s r =
       kind = suc d;
       strings = t;
       body = encode kids;
-      bytes = ap (λ (f : Forest). nodeBytes (suc d) t (encode kids) ++ encode f) (no-sibling n t more (s .0)) ∙ append-nil (nodeBytes (suc d) t (encode kids));
+      bytes = ap (λ (f : Forest). nodeBytes (suc d) t (encode kids) ++ encode f) (root-alone n t more (s .0)) ∙ append-nil (nodeBytes (suc d) t (encode kids));
       wide = r .0;
       seen = λ z. absurd (omega arith);
     })

@@ -4,8 +4,8 @@ use mathlib.Core.Path.{_≡_, refl, sym, ap, ap₂, _∙_}
 use mathlib.Core.Bool.{Bool, true}
 use mathlib.Core.List.{List, [], _∷_, _++_}
 use native.Mathlib.Omega.{arith}
-use native.Mathlib.Nat.{zero-add, mul-assoc, mul-one, pow-suc, pow-zero, suc-add}
-use lib.ListN.{length, take, replicate, length-append}
+use native.Mathlib.Nat.{mul-assoc, mul-one, pow-suc, pow-zero}
+use lib.ListN.{length, take, replicate, length-append, replicate-append-replicate}
 use lib.Seq.{take-at}
 use Rattle.buffer.specs.Lists.{count}
 use Rattle.buffer.specs.Numbers.{bytesOf}
@@ -61,10 +61,6 @@ write-lower f t t′ l n e h h′ same =
 abbrev pub zeros : ℕ → List ℕ
 zeros n = replicate n 0
 
-replicate-append : (m n : ℕ) → replicate m 0 ++ replicate n 0 ≡ replicate {A = ℕ} (m + n) 0
-replicate-append zero n = rw (zero-add n)
-replicate-append (suc m) n = rw (suc-add m n) (ap (λ (l : List ℕ). 0 ∷ l) (replicate-append m n))
-
 padded-none : (n : ℕ) → padded n (encode none) ≡ replicate n 0
 unfolding padded encode
 padded-none n = ap (λ (k : ℕ). replicate {A = ℕ} k 0) (let z : n - 0 ≡ n = omega arith in z)
@@ -76,7 +72,7 @@ regions-empty m (suc l) t s h =
     let x = entryRoom * m * 2 ^ l in
     let q : x + x ≡ entryRoom * m * 2 ^ suc l = (let d : entryRoom * m * 2 ^ suc l ≡ x * 2 = ap (λ (k : ℕ). entryRoom * m * k) (pow-suc 2 l) ∙ sym (mul-assoc (entryRoom * m) (2 ^ l) 2) in omega arith) in
     ap₂ _++_ (regions-empty m l t s (λ i k. h i (omega arith))) (ap (λ f. padded x (encode f)) (h l (omega arith)) ∙ padded-none x)
-    ∙ replicate-append x x ∙ ap (λ (k : ℕ). replicate {A = ℕ} k 0) q
+    ∙ replicate-append-replicate {A = ℕ} x x 0 ∙ ap (λ (k : ℕ). replicate {A = ℕ} k 0) q
 
 -- ---- ONE ENTRY MORE
 

@@ -1,32 +1,26 @@
 -- What a search, a reading back and an addition's lookup answer, from the tries that a store holds: what the code goes by. Of the tries of a
 -- book these are the book's answers (proofs/FromTries.antt). Assumes nothing: these are definitions.
-use Prim.Native.Nat.{ℕ, _-_}
+use Prim.Native.Nat.{ℕ}
 use mathlib.Core.Bool.{Bool, cond}
 use mathlib.Core.List.{List, [], map}
-use lib.ListN.{length, take}
 use lib.Dec.{ltb}
 use Rattle.buffer.specs.Lists.{any, flat}
-use Rattle.buffer.specs.Numbers.{number}
 use Rattle.rows.specs.Sizes.{rowSize, recordSize}
 use Rattle.rows.specs.Entry.{Entry, row}
 use Rattle.rows.specs.Order.{entryOrder}
 use Rattle.rows.specs.Sorted.{sorted}
-use Rattle.trie_theory.specs.Forest.{Key, Forest, keys}
-use Rattle.trie_theory.specs.Strings.{at}
+use Rattle.trie_theory.specs.Forest.{Forest, keys}
 use Rattle.trie_theory.specs.Dimensions.{root}
 use Rattle.trie_theory.specs.Lookup.{member}
 use Rattle.trie_theory.specs.Search.{found}
 use Rattle.entries.specs.Keys.{entryKey}
+unfoldable pub use Rattle.entries.specs.Keys.{keyEntry}
 use Rattle.entries.specs.Query.{Query, reaches, wants}
 use Rattle.book.specs.Tries.{Tries, every}
 use Rattle.book.specs.Searching.{nodesOf}
 use Rattle.book.specs.Records.{recordOf}
 use Rattle.book.specs.Replies.{Result}
 use Rattle.book.specs.Step.{list}
-
--- the entry that a key is of: its path without the end byte
-unfoldable pub keyEntry : Key → Entry
-keyEntry x = record { path = take (length (at 1 (x .strings)) - 1) (at 1 (x .strings)); value = number (at 0 (x .strings)); reference = x .reference }
 
 -- the entries of a trie, and those that a search finds in it, in the trie's own sequence
 unfoldable pub entriesOf : Forest → List Entry

@@ -10,6 +10,10 @@ use Rattle.buffer.specs.Numbers.{bytesOf, number}
 abbrev pub frontSize : ℕ
 frontSize = 16
 
+-- where the held number stands, the last of them
+abbrev pub heldAt : ℕ
+heldAt = 12
+
 -- the bytes kept for them and for later requests, and those for each entry that a level can hold
 abbrev pub frontRoom : ℕ
 frontRoom = 4096

@@ -6,18 +6,15 @@
 --   4,096 + 1,024 × M × 2^i     1,024 × M × 2^i     level i
 --
 -- Assumes nothing: these are definitions.
-use Prim.Native.Nat.{ℕ, zero, suc, _-_, _*_, _^_, _≤_}
+use Prim.Native.Nat.{ℕ, zero, suc, _*_, _^_, _≤_}
 use mathlib.Core.Path.{_≡_}
 use mathlib.Core.List.{List, _++_}
-use lib.ListN.{length, take, replicate}
+use lib.ListN.{length, take}
+unfoldable pub use Rattle.buffer.specs.Lists.{padded}
 use Rattle.trie_theory.specs.Encode.{encode}
 use Rattle.book.specs.Front.{Front, frontRoom, entryRoom, frontBytes, need}
 use Rattle.book.specs.Book.{Book, Sound, front}
 use Rattle.book.specs.Tries.{Tries, tries}
-
--- bytes with zeros behind them, n in all
-unfoldable pub padded : ℕ → List ℕ → List ℕ
-padded n bs = bs ++ replicate (n - length bs) 0
 
 -- the small trie and the levels below l
 unfoldable pub regions : ℕ → ℕ → Tries → List ℕ

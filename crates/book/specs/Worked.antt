@@ -8,7 +8,7 @@ use Rattle.buffer.specs.Lists.{flat}
 use Rattle.rows.specs.Sizes.{recordSize}
 use Rattle.rows.specs.Entry.{Entry, row}
 use Rattle.trie_theory.specs.Worked.{text}
-use Rattle.entries.specs.Query.{Query}
+use Rattle.entries.specs.Query.{asked}
 use Rattle.book.specs.Digits.{level, small}
 use Rattle.book.specs.Book.{Book, blank, fresh}
 use Rattle.book.specs.Replies.{Reply, reply, Result}
@@ -17,12 +17,9 @@ use Rattle.book.specs.Step.{step, answers}
 use Rattle.book.specs.Image.{image}
 use Rattle.book.specs.Computing.{of-a-book, of-an-image}
 
--- an entry with a reference of 19 zeros and one byte, and a query
+-- an entry with a reference of 19 zeros and one byte
 abbrev entry : String → ℕ → ℕ → Entry
 entry path value r = record { path = text path; value = value; reference = replicate 19 0 ++ (r ∷ []) }
-
-abbrev query : List ℕ → ℕ → ℕ → Query
-query pattern low high = record { pattern = pattern; low = low; high = high }
 
 abbrev replies : Book → List Call → List Reply
 replies b cs = map (λ (r : Result). r .reply) (answers b cs)
@@ -31,7 +28,7 @@ replies b cs = map (λ (r : Result). r .reply) (answers b cs)
 abbrev listing : List Call
 listing =
     setup 65536 4 2 1 ∷ add 65536 (entry "/north/pond" 7 1) ∷ add 65536 (entry "/north/edge" 7 1) ∷ add 65536 (entry "/south/edge" 9 2)
-    ∷ search 65536 (query (text "/**/edge") 0 8) (replicate 230 170) ∷ []
+    ∷ search 65536 (asked (text "/**/edge") 0 8) (replicate 230 170) ∷ []
 
 -- its output: numbers and values, the node count 4 included
 pub listing-replies : replies blank listing ≡ reply 0 0 0 ∷ reply 0 1 0 ∷ reply 0 2 0 ∷ reply 0 3 0 ∷ reply 0 1 4 ∷ []
@@ -56,10 +53,10 @@ examples =
     ∷ add 15 (entry "/north/pond" 7 1) ∷ add 20479 (entry "/north/pond" 7 1)
     ∷ setup 65536 0 2 1
     ∷ setup 20479 4 2 1 ∷ setup 20480 4 2 1
-    ∷ search 65536 (query (text "/a**b") 0 8) []
-    ∷ search 65536 (query (flat (replicate 33 (text "/a"))) 0 8) [] ∷ search 65536 (query (flat (replicate 32 (text "/a"))) 0 8) []
-    ∷ search 65536 (query (text "/**/edge") 9 8) []
-    ∷ search 65536 (query (text "/**") 0 8) (replicate 228 0) ∷ search 65536 (query (text "/**") 0 8) (replicate 229 0)
+    ∷ search 65536 (asked (text "/a**b") 0 8) []
+    ∷ search 65536 (asked (flat (replicate 33 (text "/a"))) 0 8) [] ∷ search 65536 (asked (flat (replicate 32 (text "/a"))) 0 8) []
+    ∷ search 65536 (asked (text "/**/edge") 9 8) []
+    ∷ search 65536 (asked (text "/**") 0 8) (replicate 228 0) ∷ search 65536 (asked (text "/**") 0 8) (replicate 229 0)
     ∷ add 65536 (entry "/north/pond" 7 1) ∷ []
 
 pub example-replies :

@@ -1,15 +1,15 @@
 -- Laws of small words about lists: what holds of every element, what some element passes, what is picked, equal lists, parts.
-use Prim.Native.Nat.{ℕ, _-_}
+use Prim.Native.Nat.{ℕ, _-_, _≤_}
 use Rattle.buffer.proofs.Tests.{and-left, and-right, and-both, or-right}
 use mathlib.Core.Path.{_≡_, refl, sym, ap, ap₂, _∙_}
-use mathlib.Core.Bool.{Bool, true, false, cond, _&&_, _||_, false≢true}
-use mathlib.Core.List.{List, [], _∷_, _++_, map}
+use mathlib.Core.Bool.{Bool, true, false, cond, _||_, false≢true}
+use mathlib.Core.List.{List, [], _∷_, _++_, map, append-assoc}
 use native.Mathlib.Omega.{arith}
-use lib.ListN.{length, take, drop, length-drop}
+use lib.ListN.{length, take, drop, replicate, length-append, length-drop, length-replicate, take-append-drop}
 use lib.Seq.{take-all, take-at, drop-at}
 use lib.Dec.{eqb}
 use borrow.Author.Tests.{eqb-true, eq-eqb}
-use Rattle.buffer.specs.Lists.{all, All, nil, cons, any, pick, same}
+use Rattle.buffer.specs.Lists.{all, All, nil, cons, any, pick, flat, padded, same}
 
 pub all-head : {A : Type 0} {P : A → Type 0} {x : A} {xs : List A} → All P (x ∷ xs) → P x
 all-head (cons h a) = h
@@ -60,6 +60,22 @@ pub all-test : {A : Type 0} (t : A → Bool) {xs : List A} → All (λ x. t x �
 all-test t nil = refl
 all-test t (cons h a) = and-both h (all-test t a)
 
+-- a test passed by all, of lists put together and of their parts
+pub tested-append : {A : Type 0} (t : A → Bool) (xs ys : List A) → all t xs ≡ true → all t ys ≡ true → all t (xs ++ ys) ≡ true
+tested-append t xs ys a b = all-test t (all-append (all-tested t xs a) (all-tested t ys b))
+
+pub tested-left : {A : Type 0} (t : A → Bool) (xs ys : List A) → all t (xs ++ ys) ≡ true → all t xs ≡ true
+tested-left t xs ys a = all-test t (all-left xs ys (all-tested t (xs ++ ys) a))
+
+pub tested-right : {A : Type 0} (t : A → Bool) (xs ys : List A) → all t (xs ++ ys) ≡ true → all t ys ≡ true
+tested-right t xs ys a = all-test t (all-right xs ys (all-tested t (xs ++ ys) a))
+
+pub tested-take : {A : Type 0} (t : A → Bool) (n : ℕ) (xs : List A) → all t xs ≡ true → all t (take n xs) ≡ true
+tested-take t n xs a = tested-left t (take n xs) (drop n xs) (ap (all t) (take-append-drop n xs) ∙ a)
+
+pub tested-drop : {A : Type 0} (t : A → Bool) (n : ℕ) (xs : List A) → all t xs ≡ true → all t (drop n xs) ≡ true
+tested-drop t n xs a = tested-right t (take n xs) (drop n xs) (ap (all t) (take-append-drop n xs) ∙ a)
+
 -- what is picked passed the test, and what held of all holds of it
 pub all-pick : {A : Type 0} {P : A → Type 0} (t : A → Bool) {xs : List A} → All P xs → All (λ x. P x × (t x ≡ true)) (pick t xs)
 unfolding pick
@@ -84,6 +100,15 @@ pick-append t (x ∷ xs) ys = go (t x) (pick-append t xs ys)
 pub map-append : {A B : Type 0} (f : A → B) (xs ys : List A) → map f (xs ++ ys) ≡ map f xs ++ map f ys
 map-append f [] ys = refl
 map-append f (x ∷ xs) ys = ap (λ (l : List _). f x ∷ l) (map-append f xs ys)
+
+pub flat-append : {A : Type 0} (xs ys : List (List A)) → flat (xs ++ ys) ≡ flat xs ++ flat ys
+unfolding flat
+flat-append [] ys = refl
+flat-append (x ∷ xs) ys = ap (λ (l : List _). x ++ l) (flat-append xs ys) ∙ sym (append-assoc x (flat xs) (flat ys))
+
+pub length-padded : (n : ℕ) (bs : List ℕ) → length bs ≤ n → length (padded n bs) ≡ n
+unfolding padded
+length-padded n bs h = length-append bs (replicate (n - length bs) 0) ∙ rw (length-replicate {A = ℕ} (n - length bs) 0) (omega arith)
 
 pub any-append : {A : Type 0} (t : A → Bool) (xs ys : List A) → any t (xs ++ ys) ≡ any t xs || any t ys
 unfolding any

@@ -1,7 +1,8 @@
 -- Small words about lists: what holds of every element, what is picked, how many there are. Assumes nothing: these are definitions.
-use Prim.Native.Nat.{ℕ, suc, _+_}
+use Prim.Native.Nat.{ℕ, suc, _+_, _-_}
 use mathlib.Core.Bool.{Bool, true, false, cond, _&&_, _||_}
 use mathlib.Core.List.{List, [], _∷_, _++_}
+use lib.ListN.{length, replicate}
 
 -- the list is empty
 abbrev pub none : {A : Type 0} → List A → Bool
@@ -42,6 +43,10 @@ count t (x ∷ xs) = cond (t x) (suc (count t xs)) (count t xs)
 unfoldable pub flat : {A : Type 0} → List (List A) → List A
 flat [] = []
 flat (x ∷ xs) = x ++ flat xs
+
+-- bytes with zeros behind them, n in all
+unfoldable pub padded : ℕ → List ℕ → List ℕ
+padded n bs = bs ++ replicate (n - length bs) 0
 
 -- equal lists, by a test of their elements
 unfoldable pub same : {A : Type 0} → (A → A → Bool) → List A → List A → Bool

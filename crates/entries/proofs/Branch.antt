@@ -28,6 +28,7 @@ use Rattle.trie_theory.specs.Forest.{Strings, Key}
 use Rattle.trie_theory.specs.Strings.{at}
 use Rattle.trie_theory.specs.Strings as Bytes
 use Rattle.trie_theory.proofs.Prefix.{Prefix, goesOn-prefixes, prefixes-at}
+use Rattle.trie_theory.proofs.Strings.{drop-prefix}
 use Rattle.entries.specs.Keys.{entryKey}
 use Rattle.entries.specs.Query.{Query, inRange, matchesEntry, lowest, highest, overlaps, valueReach, isMatch, reaches, wants}
 use Rattle.entries.specs.Branch.{ValueContinued, Branch-Decided}
@@ -164,12 +165,6 @@ branch-decided q known bytes = (
 
 -- ---- bytes that begin others
 
-pub prefix-rest : (k s : List ℕ) → Prefix k s → k ++ drop (length k) s ≡ s
-unfolding Prefix
-prefix-rest [] s h = refl
-prefix-rest (a ∷ k) [] h = absurd h
-prefix-rest (a ∷ k) (b ∷ s) h = λ i. h .0 i ∷ prefix-rest k s (h .1) i
-
 value-before : (q : Query) (k s : List ℕ) → Prefix k s → ValueContinued q s → ValueContinued q k
 value-before q k s h v =
     let rest = drop (length k) s in
@@ -178,7 +173,7 @@ value-before q k s h v =
       small = v .small;
       in-range = v .in-range;
       more = rest ++ v .more;
-      goes-on = sym (append-assoc k rest (v .more)) ∙ ap (λ (l : List ℕ). l ++ v .more) (prefix-rest k s h) ∙ v .goes-on;
+      goes-on = sym (append-assoc k rest (v .more)) ∙ ap (λ (l : List ℕ). l ++ v .more) (drop-prefix k s h) ∙ v .goes-on;
     }
 
 path-before : (pattern k s : List ℕ) → Prefix k s → Continued pattern s → Continued pattern k
@@ -189,7 +184,7 @@ path-before pattern k s h c =
       path = c .path;
       is-path = c .is-path;
       more = rest ++ c .more;
-      goes-on = sym (append-assoc k rest (c .more)) ∙ ap (λ (l : List ℕ). l ++ c .more) (prefix-rest k s h) ∙ c .goes-on;
+      goes-on = sym (append-assoc k rest (c .more)) ∙ ap (λ (l : List ℕ). l ++ c .more) (drop-prefix k s h) ∙ c .goes-on;
       fits = c .fits;
     }
 

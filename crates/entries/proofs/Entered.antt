@@ -8,16 +8,17 @@ use lib.ListN.{length, drop}
 use Rattle.buffer.specs.Lists.{All, all}
 use Rattle.buffer.specs.Numbers.{byte}
 use Rattle.buffer.proofs.Tests.{and-left, and-right, and-both}
-use Rattle.buffer.proofs.Lists.{all-tested, all-test, all-left, all-right, all-head}
+use Rattle.buffer.proofs.Lists.{all-left, all-right, all-head, tested-left}
 use Rattle.trie_theory.specs.Forest.{Strings, Key, Forest, none, leaf, inner, join, under, keys, tops}
 use Rattle.trie_theory.specs.Strings.{at, goesOn}
 use Rattle.trie_theory.specs.Dimensions.{Above, root, below}
 use Rattle.trie_theory.specs.Sound.{Sound}
 use Rattle.trie_theory.specs.Search.{branch, enters, nodesEntered, admitted}
 use Rattle.trie_theory.proofs.Prefix.{Prefixes, goesOn-prefixes, prefixes-at, prefixes-join}
+use Rattle.trie_theory.proofs.Strings.{drop-prefix}
 use Rattle.trie_theory.proofs.Search.{branch-join, entered-admitted}
 use Rattle.entries.specs.Query.{Query, reaches}
-use Rattle.entries.proofs.Branch.{prefix-rest, reaches-before}
+use Rattle.entries.proofs.Branch.{reaches-before}
 use Rattle.entries.proofs.Found.{Valued}
 
 -- the value bytes known are bytes
@@ -26,7 +27,7 @@ known k = all byte (at 0 k)
 
 known-before : (k s : Strings) → Prefixes k s → known s ≡ true → known k ≡ true
 known-before k s h e =
-    all-test byte (all-left (at 0 k) (drop (length (at 0 k)) (at 0 s)) (all-tested byte _ (ap (all byte) (prefix-rest (at 0 k) (at 0 s) (prefixes-at 0 k s h)) ∙ e)))
+    tested-left byte (at 0 k) (drop (length (at 0 k)) (at 0 s)) (ap (all byte) (drop-prefix (at 0 k) (at 0 s) (prefixes-at 0 k s h)) ∙ e)
 
 -- .. at every node of tries
 Known : Strings → Forest → Type 0

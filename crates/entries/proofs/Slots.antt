@@ -7,7 +7,7 @@ use native.Mathlib.Omega.{arith}
 use native.Mathlib.Numerals.{add-one}
 use borrow.Author.Tests.{le-leb}
 use lib.ListN.{length, take, getD, replicate, length-append, length-replicate}
-use Rattle.buffer.specs.Lists.{all, flat}
+use Rattle.buffer.specs.Lists.{all, flat, padded}
 use Rattle.buffer.specs.Splice.{region}
 use Rattle.matcher.specs.Bytes.{pathLimit}
 use Rattle.rows.specs.Sizes.{lengthAt, pathAt, rowSize}
@@ -15,7 +15,7 @@ use Rattle.rows.specs.Entry.{Entry, row, fitsRow}
 use Rattle.rows.specs.Records.{records}
 use Rattle.rows.specs.Order.{entryOrder, recordOrder}
 use Rattle.rows.specs.Sorted.{sorted}
-use Rattle.rows.proofs.Rows.{fits, padded, from-path, value-region, reference-at, length-at, length-row, sort-records, length-side-by-side, records-side-by-side}
+use Rattle.rows.proofs.Rows.{fits, from-path, value-region, reference-at, length-at, length-row, sort-records, length-side-by-side, records-side-by-side}
 use Rattle.entries.specs.Keys.{entryKey}
 use Rattle.entries.specs.Slots.{slotSize, slot, slotKey, shortPath}
 

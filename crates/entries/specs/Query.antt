@@ -19,6 +19,9 @@ pub record Query : Type 0 where
   pub low : ℕ
   pub high : ℕ
 
+abbrev pub asked : List ℕ → ℕ → ℕ → Query
+asked pattern low high = record { pattern = pattern; low = low; high = high }
+
 unfoldable pub inRange : Query → ℕ → Bool
 inRange q v = leb (q .low) v && leb v (q .high)
 

@@ -1,13 +1,14 @@
 -- What the walk of a whole trie puts: the slots of its entries. Assumes nothing.
 use mathlib.Core.Path.{_≡_, refl, sym, ap, ap₂, _∙_}
-use mathlib.Core.Bool.{Bool, true}
-use Prim.Native.Nat.{ℕ, zero, suc, _+_, _*_, _≤_, _<_}
+use mathlib.Core.Bool.{true}
+use Prim.Native.Nat.{ℕ, zero, suc, _*_, _≤_, _<_}
 use mathlib.Core.List.{List, [], _∷_, _++_, append-nil, map}
 use native.Mathlib.Omega.{arith}
 use lib.ListN.{length, take, length-map}
 use lib.Seq.{take-all, length-take-le}
 use Rattle.buffer.specs.Lists.{all, pick, flat}
 use Rattle.buffer.specs.Splice.{splice}
+use Rattle.buffer.proofs.Lists.{tested-take}
 use Rattle.buffer.proofs.Splice.{splice-nil}
 use Rattle.buffer.proofs.Tests.{and-left, and-right, and-both}
 use Rattle.rows.specs.Sizes.{nodeLimit}
@@ -26,11 +27,6 @@ use Rattle.gather.specs.Gathered.{Gathered}
 use Rattle.gather.proofs.Filling.{length-slot, short-slot, entry-has, entry-slot}
 use Rattle.gather.proofs.Putting.{length-put, all-even, joined-none}
 use Rattle.gather.proofs.Splitting.{keys-root}
-
-pub all-take : {A : Type 0} (t : A → Bool) (n : ℕ) (xs : List A) → all t xs ≡ true → all t (take n xs) ≡ true
-all-take t zero xs h = refl
-all-take t (suc n) [] h = refl
-all-take t (suc n) (x ∷ xs) h = and-both (and-left (t x) (all t xs) h) (all-take t n xs (and-right (t x) (all t xs) h))
 
 all-short : (xs : List Key) → all hasSlot xs ≡ true → all shortPath (map keySlot xs) ≡ true
 all-short [] h = refl
@@ -72,7 +68,7 @@ module _ (from to : ℕ) {out room n : ℕ} {s k s' k' : List ℕ} (w : Put keyS
   wrote = w .writes s [] refl refl refl (sym (ap (splice s out) (none-joined room) ∙ splice-nil s out))
 
   fit : all hasSlot taken ≡ true
-  fit = all-take hasSlot room (w .put) (w .fit)
+  fit = tested-take hasSlot room (w .put) (w .fit)
 
   of-entries : (f : Forest) (es : List Entry) → Regular 2 f → height f ≤ nodeLimit → part from to s ≡ encode f
       → keys [] f ≡ map entryKey es → all fitsRow es ≡ true → length es ≤ room → taken ≡ map entryKey es

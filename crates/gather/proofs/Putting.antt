@@ -14,7 +14,7 @@ use lib.Seq.{take-all, take-append-le, take-take, drop-drop}
 use borrow.Author.Tests.{lt-ltb, le-ltb, eq-eqb}
 use Rattle.buffer.specs.Lists.{all, flat}
 use Rattle.buffer.specs.Splice.{splice}
-use Rattle.buffer.proofs.Lists.{map-append}
+use Rattle.buffer.proofs.Lists.{map-append, flat-append, tested-append}
 use Rattle.buffer.proofs.Splice.{length-splice, splice-then, take-before, region-drop}
 use Rattle.buffer.proofs.Tests.{and-left, and-right, and-both}
 use Rattle.rows.proofs.Records.{length-joined, wide, record-inside}
@@ -25,11 +25,6 @@ use Rattle.gather.specs.KeySlots.{hasSlot, known}
 use Rattle.gather.specs.Walks.{joined, PutBy}
 
 -- ---- lists of things
-
-flat-append : (xs ys : List (List ℕ)) → flat (xs ++ ys) ≡ flat xs ++ flat ys
-unfolding flat
-flat-append [] ys = refl
-flat-append (x ∷ xs) ys = ap (λ (l : List ℕ). x ++ l) (flat-append xs ys) ∙ sym (append-assoc x (flat xs) (flat ys))
 
 pub joined-append : {A : Type 0} (g : A → List ℕ) (xs ys : List A) → joined g (xs ++ ys) ≡ joined g xs ++ joined g ys
 unfolding joined
@@ -42,10 +37,6 @@ joined-one g x = append-nil (g x)
 pub joined-none : {A : Type 0} (g : A → List ℕ) → joined g [] ≡ []
 unfolding joined flat
 joined-none g = refl
-
-pub all-both : {A : Type 0} (t : A → Bool) (xs ys : List A) → all t xs ≡ true → all t ys ≡ true → all t (xs ++ ys) ≡ true
-all-both t [] ys a b = b
-all-both t (x ∷ xs) ys a b = and-both (and-left (t x) (all t xs) a) (all-both t xs ys (and-right (t x) (all t xs) a) b)
 
 less? : (a b : ℕ) → (a < b) ⊎ (b ≤ a)
 less? a b = elim (decLe b a) [ yes h ↦ inr h | no h ↦ inl (lt-of-not-le h) ]
@@ -93,11 +84,11 @@ module _ {T : Type 0} {ok : T → Bool} {g : T → List ℕ} {v p out room : ℕ
   put-then {A} {B} {n} {m} {r} {s} {k} {s'} {k'} {s''} {k''} a b =
       record {
         put = a .put ++ b .put;
-        fit = all-both ok (a .put) (b .put) (a .fit) (b .fit);
+        fit = tested-append ok (a .put) (b .put) (a .fit) (b .fit);
         count = omega (arith, a .count, b .count, length-append (a .put) (b .put));
         long = b .long ∙ a .long;
         writes = λ s₀ done l c f e.
-            let q = b .writes s₀ (done ++ a .put) (omega (arith, a .long)) (omega (arith, a .count, length-append done (a .put))) (all-both ok done (a .put) f (a .fit)) (a .writes s₀ done l c f e) in
+            let q = b .writes s₀ (done ++ a .put) (omega (arith, a .long)) (omega (arith, a .count, length-append done (a .put))) (tested-append ok done (a .put) f (a .fit)) (a .writes s₀ done l c f e) in
             rw (append-assoc done (a .put) (b .put)) at q;
         front = b .front ∙ a .front;
         kept = b .kept ∙ a .kept;

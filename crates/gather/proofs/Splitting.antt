@@ -20,7 +20,7 @@ use Rattle.trie_theory.specs.Forest.{Strings, Key, Forest, none, leaf, inner, j
 use Rattle.trie_theory.specs.Strings.{at}
 use Rattle.trie_theory.specs.Size.{height}
 use Rattle.trie_theory.specs.Encode.{Regular, encode}
-use Rattle.trie_read.specs.Shape.{part, Fixed, keyOf}
+use Rattle.trie_read.specs.Shape.{part, Fixed}
 use Rattle.trie_read.specs.Heads.{headOf}
 use Rattle.trie_read.specs.Suffixes.{suffixesBytes, tailOf}
 use Rattle.trie_read.specs.declared.head.Head.{Head}
@@ -28,8 +28,8 @@ use Rattle.trie_read.specs.declared.head.Head.the-variants as Head
 use Rattle.trie_read.specs.declared.suffixes.Tail.{Tail}
 use Rattle.trie_read.specs.declared.suffixes.Tail.the-variants.{End, Bad, At}
 use Rattle.trie_read.proofs.Node.{leaf-view, inner-view, head-end, head-good, strings-are}
-use Rattle.trie_read.proofs.Suffix.{Seen, tail-end, tail-good, tail-at}
-use Rattle.trie_read.proofs.Among.{two-strings}
+use Rattle.trie_read.proofs.Suffix.{tail-end, tail-good, tail-at}
+pub use Rattle.trie_read.proofs.Among.{seen-key}
 use Rattle.trie_read.proofs.Walking.{same?}
 use Rattle.gather.specs.KeySlots.{endedLimit, hasSlot, known, suffixKey}
 use Rattle.gather.specs.Walks.{SuffixKeys, TrieKeys, BodyKeys}
@@ -45,10 +45,6 @@ unfolding pick
 pick-not t x e = rw e
 
 -- ---- suffixes
-
--- the places show its key
-pub seen-key : {t : List ℕ} {ts : List Key} {path next : ℕ} (v : Seen t ts path next) → keyOf (part 22 path t) (part path next t) (part 2 22 t) ≡ v .t
-seen-key v = rw (v .places .value-is, v .places .path-is, v .places .reference-is) (sym (two-strings (v .t) (v .own .0)))
 
 none-picked : (k : Strings) (ts : List Key) → ts ≡ [] → pick hasSlot (map (under k) ts) ≡ []
 unfolding pick

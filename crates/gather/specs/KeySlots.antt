@@ -10,6 +10,7 @@ use Rattle.rows.specs.Sizes.{valueSize, referenceSize, pathAt, rowSize}
 use Rattle.trie_theory.specs.Forest.{Strings, Key, under}
 use Rattle.trie_theory.specs.Strings.{at}
 use Rattle.entries.specs.Slots.{slotSize}
+use Rattle.trie_read.specs.Sizes.{suffixSize}
 use Rattle.trie_read.specs.Shape.{part, keyOf}
 
 -- a path and its end byte
@@ -38,4 +39,4 @@ known v p k = take v k ∷ region k pathAt p ∷ []
 
 -- the key of the first suffix in the bytes b, whose path bytes are b[path..next], behind the bytes k
 abbrev pub suffixKey : Strings → List ℕ → ℕ → ℕ → Key
-suffixKey k b path next = under k (keyOf (part 22 path b) (part path next b) (part 2 22 b))
+suffixKey k b path next = under k (keyOf (part suffixSize path b) (part path next b) (part 2 suffixSize b))

@@ -12,6 +12,7 @@ use Rattle.trie_theory.specs.Forest.{Strings, Key, Forest, join, under, keys}
 use Rattle.trie_theory.specs.Size.{height}
 use Rattle.trie_theory.specs.Encode.{Regular, encode}
 use Rattle.entries.specs.Slots.{slotSize}
+use Rattle.trie_read.specs.Sizes.{headSize}
 use Rattle.trie_read.specs.Shape.{Fixed, part}
 use Rattle.trie_read.specs.Suffixes.{suffixesBytes}
 use Rattle.gather.specs.KeySlots.{endedLimit, hasSlot, known}
@@ -60,8 +61,8 @@ pub record BodyKeys (kind depth : ℕ) (k : Strings) (t : List ℕ) (ks : List K
 
 -- A node is entered, if its strings have room behind the known bytes: then they are known too
 pub record Entered (v p : ℕ) (t : List ℕ) (path body : ℕ) (k k' : List ℕ) (r : Bool) : Type 0 where
-  pub is : r ≡ leb (v + (path - 7)) valueSize && leb (p + (body - path)) endedLimit
-  pub joins : r ≡ true → known (v + (path - 7)) (p + (body - path)) k' ≡ join (known v p k) (part 7 path t ∷ part path body t ∷ [])
+  pub is : r ≡ leb (v + (path - headSize)) valueSize && leb (p + (body - path)) endedLimit
+  pub joins : r ≡ true → known (v + (path - headSize)) (p + (body - path)) k' ≡ join (known v p k) (part headSize path t ∷ part path body t ∷ [])
   pub kept : known v p k' ≡ known v p k
 
 -- what a walk asks for: the bytes from..to stand before `out`, behind which there is room for as many slots; the key buffer is a slot

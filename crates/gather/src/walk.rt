@@ -6,6 +6,7 @@ use entries::SLOT_SIZE;
 use rows::sizes::NODE_LIMIT;
 use trie_read::head::Head;
 use trie_read::head::read_head;
+use trie_read::sizes::HEAD_SIZE;
 use trie_read::suffixes::Tail;
 use trie_read::suffixes::read_suffix;
 ghost use Prim.Native.Nat.{_+_, _-_, _*_, _≤_};
@@ -97,7 +98,7 @@ fn walk(
                         a + body,
                         a + next,
                         key,
-                        v + (path - 7),
+                        v + (path - HEAD_SIZE),
                         p + (body - path),
                         depth - 1,
                         out,

@@ -2,11 +2,9 @@
 use mathlib.Core.Path.{_≡_, refl}
 use mathlib.Core.List.{List, [], _∷_}
 use Prim.Native.Nat.{ℕ}
-use Rattle.logline.specs.Fields.{width, only, numberFrom, plain, numberOf, hexDigit, hexValue, isReference, unhex}
+use Rattle.linefields.specs.Fields.{width, only, numberFrom, plain, numberOf, hexDigit, hexValue, isReference, unhex}
 use Rattle.logline.specs.Meaning.{Meaning, withField, meaning}
 use Rattle.logline.specs.Meaning.Meaning.{setup, addition, searching, misread}
-use Rattle.logline.specs.Spelling.{decimalIn, decimal, reply}
-use Rattle.logline.specs.Input.{linesFrom, linesOf}
 
 -- `4,2,1`
 a-setup : meaning (52 ∷ 44 ∷ 50 ∷ 44 ∷ 49 ∷ []) ≡ setup 4 2 1
@@ -57,29 +55,3 @@ too-large = refl
 empty-line : meaning ([]) ≡ misread
 unfolding width only numberFrom plain numberOf hexDigit hexValue isReference unhex withField
 empty-line = refl
-
--- `=,0,1,4`
-a-reply : reply 0 1 4 ≡ 61 ∷ 44 ∷ 48 ∷ 44 ∷ 49 ∷ 44 ∷ 52 ∷ 10 ∷ []
-unfolding reply decimal decimalIn
-a-reply = refl
-
-all-digits : decimal 18446744073709551615 ≡ 49 ∷ 56 ∷ 52 ∷ 52 ∷ 54 ∷ 55 ∷ 52 ∷ 52 ∷ 48 ∷ 55 ∷ 51 ∷ 55 ∷ 48 ∷ 57 ∷ 53 ∷ 53 ∷ 49 ∷ 54 ∷ 49 ∷ 53 ∷ []
-unfolding decimal decimalIn
-all-digits = refl
-
--- no input has no line, a lone 0A one that is empty, and the last line may lack its 0A
-no-line : linesOf [] ≡ []
-unfolding linesFrom
-no-line = refl
-
-one-line : linesOf (10 ∷ []) ≡ [] ∷ []
-unfolding linesFrom
-one-line = refl
-
-two-lines : linesOf (97 ∷ 10 ∷ 10 ∷ []) ≡ (97 ∷ []) ∷ [] ∷ []
-unfolding linesFrom
-two-lines = refl
-
-last-line : linesOf (10 ∷ 97 ∷ []) ≡ [] ∷ (97 ∷ []) ∷ []
-unfolding linesFrom
-last-line = refl

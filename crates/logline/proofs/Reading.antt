@@ -10,11 +10,11 @@ use lib.Dec.{ltb}
 use borrow.Author.Tests.{lt-ltb, le-ltb}
 use Rattle.buffer.specs.Splice.{region}
 use Rattle.buffer.proofs.Splice.{length-region}
-use Rattle.logline.specs.Fields.{width, Ends, isReference}
+use Rattle.linefields.specs.Fields.{width, Ends, isReference}
 use Rattle.logline.specs.Meaning.{Meaning, withField, meaning, meant, Says}
 use Rattle.logline.specs.Meaning.Meaning.{misread}
 use Rattle.logline.specs.declared.command.Command.the-variants.{Misread}
-use Rattle.logline.proofs.Scan.{reference-length}
+use Rattle.linefields.proofs.Scan.{reference-length}
 
 pub misreads : (s : List ℕ) (m : Meaning) → m ≡ misread → Says s m Misread
 misreads s m e = record { means = sym e; inside = tt }

@@ -6,11 +6,12 @@ use mathlib.Core.List.{List}
 use mathlib.Core.Bool.{Bool, true, false, cond}
 use lib.ListN.{length, take, drop}
 use lib.Dec.{ltb}
-use Rattle.logline.specs.Sizes.{lineLimit, referenceDigits}
+use Rattle.linecut.specs.Sizes.{lineLimit}
+use Rattle.linefields.specs.Sizes.{referenceDigits}
 use Rattle.buffer.specs.Splice.{region}
-use Rattle.logline.specs.Fields.{width, only, numberOf, isReference, unhex}
-use Rattle.logline.specs.declared.fields.Number.{Number}
-use Rattle.logline.specs.declared.fields.Number.the-variants.{Value, Not}
+use Rattle.linefields.specs.Fields.{width, only, numberOf, isReference, unhex}
+use Rattle.linefields.specs.declared.fields.Number.{Number}
+use Rattle.linefields.specs.declared.fields.Number.the-variants.{Value, Not}
 use Rattle.logline.specs.declared.command.Command.{Command}
 use Rattle.logline.specs.declared.command.Command.the-variants.{Setup, Add, Search, Misread}
 

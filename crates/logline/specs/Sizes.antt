@@ -1,21 +1,5 @@
--- The sizes of lines and of what is spelled, one name each; those of a row are those of crate rows. Assumes nothing: these are definitions.
-use Prim.Native.Nat.{ℕ, _+_, _*_}
+-- The sizes of lines and of what is spelled, of the crates below, and those of a row.
 pub use Rattle.rows.specs.Sizes.{valueSize, referenceSize, pathLimit, referenceAt, lengthAt, pathAt, rowSize}
-
--- the most bytes of a line
-abbrev pub lineLimit : ℕ
-lineLimit = 512
-
--- the hex digits of a reference, and the most decimal digits of a number below 2^64
-abbrev pub referenceDigits : ℕ
-referenceDigits = 2 * referenceSize
-
-abbrev pub decimalDigits : ℕ
-decimalDigits = 20
-
--- room for any reply, and for any row: a mark and a comma, fields with a byte behind each
-abbrev pub replyLimit : ℕ
-replyLimit = 2 + 3 * (decimalDigits + 1)
-
-abbrev pub rowLineLimit : ℕ
-rowLineLimit = 2 + (decimalDigits + 1) + (referenceDigits + 1) + (pathLimit + 1)
+pub use Rattle.linecut.specs.Sizes.{lineLimit}
+pub use Rattle.linefields.specs.Sizes.{referenceDigits}
+pub use Rattle.linespell.specs.Sizes.{decimalDigits, replyLimit, rowLineLimit}

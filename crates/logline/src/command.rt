@@ -1,6 +1,6 @@
 // A line read as a command: numbers, and positions in the line for what is text.
-use crate::fields::Number;
-use crate::sizes::LINE_LIMIT;
+use linecut::sizes::LINE_LIMIT;
+use linefields::fields::Number;
 ghost use mathlib.Core.Path.{_≡_};
 ghost use Prim.Native.Nat.{_+_, _-_, _≤_, _<_};
 ghost use mathlib.Core.List.{List};
@@ -32,19 +32,19 @@ fn read_addition(s: &[u8], at: usize) -> Command
     requires { ⌜ at ≤ length (now s) ⌝ }
     ensures { λ r. ⌜ Says (now (s .entry)) (additionOf (drop at (now (s .entry)))) r ⌝ }
 {
-    let a = crate::fields::field_end(s, at);
+    let a = linefields::fields::field_end(s, at);
     if a == s.len() {
         return Command::Misread;
     }
-    let Number::Value(value) = crate::fields::decimal(&s[at..a]) else {
+    let Number::Value(value) = linefields::fields::decimal(&s[at..a]) else {
         return Command::Misread;
     };
     let reference = a + 1;
-    let b = crate::fields::field_end(s, reference);
+    let b = linefields::fields::field_end(s, reference);
     if b == s.len() {
         return Command::Misread;
     }
-    if !crate::fields::is_reference(&s[reference..b]) {
+    if !linefields::fields::is_reference(&s[reference..b]) {
         return Command::Misread;
     }
     Command::Add {
@@ -59,19 +59,19 @@ fn read_search(s: &[u8], at: usize) -> Command
     requires { ⌜ at ≤ length (now s) ⌝ }
     ensures { λ r. ⌜ Says (now (s .entry)) (searchOf (drop at (now (s .entry)))) r ⌝ }
 {
-    let a = crate::fields::field_end(s, at);
+    let a = linefields::fields::field_end(s, at);
     if a == s.len() {
         return Command::Misread;
     }
-    let Number::Value(low) = crate::fields::decimal(&s[at..a]) else {
+    let Number::Value(low) = linefields::fields::decimal(&s[at..a]) else {
         return Command::Misread;
     };
     let next = a + 1;
-    let b = crate::fields::field_end(s, next);
+    let b = linefields::fields::field_end(s, next);
     if b == s.len() {
         return Command::Misread;
     }
-    let Number::Value(high) = crate::fields::decimal(&s[next..b]) else {
+    let Number::Value(high) = linefields::fields::decimal(&s[next..b]) else {
         return Command::Misread;
     };
     Command::Search {
@@ -86,19 +86,19 @@ fn read_setup(s: &[u8], at: usize, a: usize) -> Command
     requires { ⌜ (at ≤ a) × (a < length (now s)) ⌝ }
     ensures { λ r. ⌜ Says (now (s .entry)) (setupOf (region (now (s .entry)) at (a - at)) (drop (a + 1) (now (s .entry)))) r ⌝ }
 {
-    let Number::Value(m) = crate::fields::decimal(&s[at..a]) else {
+    let Number::Value(m) = linefields::fields::decimal(&s[at..a]) else {
         return Command::Misread;
     };
     let next = a + 1;
-    let b = crate::fields::field_end(s, next);
+    let b = linefields::fields::field_end(s, next);
     if b == s.len() {
         return Command::Misread;
     }
-    let Number::Value(l) = crate::fields::decimal(&s[next..b]) else {
+    let Number::Value(l) = linefields::fields::decimal(&s[next..b]) else {
         return Command::Misread;
     };
     let last = b + 1;
-    let Number::Value(tau) = crate::fields::decimal(&s[last..]) else {
+    let Number::Value(tau) = linefields::fields::decimal(&s[last..]) else {
         return Command::Misread;
     };
     Command::Setup { m, l, tau }
@@ -114,14 +114,14 @@ pub fn command_at(s: &[u8], at: usize) -> Command
     if LINE_LIMIT < s.len() - at {
         return Command::Misread;
     }
-    let a = crate::fields::field_end(s, at);
+    let a = linefields::fields::field_end(s, at);
     if a == s.len() {
         return Command::Misread;
     }
-    if crate::fields::is_only(&s[at..a], 43) {
+    if linefields::fields::is_only(&s[at..a], 43) {
         return read_addition(s, a + 1);
     }
-    if crate::fields::is_only(&s[at..a], 63) {
+    if linefields::fields::is_only(&s[at..a], 63) {
         return read_search(s, a + 1);
     }
     read_setup(s, at, a)

@@ -1,16 +1,5 @@
-// The sizes of specs/Sizes.antt, under the same names.
-use rows::sizes::PATH_LIMIT;
-use rows::sizes::REFERENCE_SIZE;
-
-pub const LINE_LIMIT: usize = 512;
-
-pub const REFERENCE_DIGITS: usize = 2 * REFERENCE_SIZE;
-
-const DECIMAL_DIGITS: usize = 20;
-
-pub const REPLY_LIMIT: usize = 2 + 3 * (DECIMAL_DIGITS + 1);
-
-pub const ROW_LINE_LIMIT: usize = 2
-    + (DECIMAL_DIGITS + 1)
-    + (REFERENCE_DIGITS + 1)
-    + (PATH_LIMIT + 1);
+// The sizes of lines and of what is spelled, of the crates below.
+pub use linecut::sizes::LINE_LIMIT;
+pub use linefields::sizes::REFERENCE_DIGITS;
+pub use linespell::sizes::REPLY_LIMIT;
+pub use linespell::sizes::ROW_LINE_LIMIT;

@@ -5,7 +5,7 @@ use mathlib.Core.Bool.{Bool, true, false, not, cond, _&&_}
 use Prim.Native.Nat.{ℕ, suc, _+_, _-_, _<_, _≤_}
 use native.Mathlib.Nat.{add-zero}
 use native.Mathlib.Omega.{arith}
-use lib.ListN.{length, drop, getD}
+use lib.ListN.{length, drop, getD, drop-of-length-le}
 use lib.Seq.{getD-drop}
 use lib.Dec.{eqb}
 use borrow.Author.Tests.{eq-eqb, ne-eqb}
@@ -15,7 +15,7 @@ use Rattle.matcher.specs.Labels.{upToSlash, labelsOf}
 use Rattle.matcher.specs.Form.{apart, pathLabel, formedPath}
 use Rattle.matcher.specs.Reach.{beginsPath}
 use Rattle.buffer.proofs.Tests.{and-false}
-use Rattle.matcher.proofs.Parts.{step, done, no-items}
+use Rattle.glob.proofs.Parts.{step, no-items}
 
 -- c may stand before next
 abbrev pub mayStand : ℕ → ℕ → ℕ → Bool
@@ -33,7 +33,7 @@ module _ (m : ℕ) (s : List ℕ) (i : ℕ) (l : i < length s) (next : ℕ) (n :
   apart-on e = apart-step m s i l ∙ rw (← n, e)
 
 pub apart-end : (m : ℕ) (s : List ℕ) (i : ℕ) → length s ≤ i → apart m (drop i s) ≡ true
-apart-end m s i l = ap (apart m) (done s i l)
+apart-end m s i l = ap (apart m) (drop-of-length-le s l)
 
 -- bytes that begin a path, as the code tests them
 pub begins-none : (k : List ℕ) → length k ≡ 0 → true ≡ beginsPath k

@@ -10,17 +10,16 @@ use lib.Dec.{eqb}
 use borrow.Author.Tests.{eq-eqb, ne-eqb, eqb-true}
 use Rattle.buffer.specs.Lists.{none, all}
 use Rattle.matcher.specs.Bytes.{slash, star, endByte, labelByte}
-use Rattle.matcher.specs.Labels.{labelsOf}
+use Rattle.matcher.specs.Labels.{labelsOf, Begun}
 use Rattle.matcher.specs.Form.{apart, pathLabel, patternLabel, formedPath, formedPattern, pathForm, patternForm, isFine}
 use Rattle.matcher.specs.Fit.{fit, fitLabels, fitsPath}
 use Rattle.matcher.specs.Matches.{matches}
 use Rattle.matcher.specs.Continued.{Continued, ended, Told}
 use Rattle.matcher.specs.Reach.{beginsPath, beginsLabels, reachWhole, reachOpen, reachFormed, reachOf, goesOn, Reached}
-use Rattle.matcher.specs.Inner.{Begun}
 use Rattle.matcher.specs.declared.reach.Answer.{Answer}
 use Rattle.matcher.specs.declared.reach.Answer.the-variants.{Match, Mismatch, Incomplete}
 use Rattle.buffer.proofs.Tests.{not-both, and-left, and-right, and-both}
-use Rattle.matcher.proofs.Parts.{no-items, not-none, last-place}
+use Rattle.glob.proofs.Parts.{no-items, not-none, last-place}
 use Rattle.matcher.proofs.Forms.{fine-path, fine-pattern, matches-pattern, matches-path, matches-fits, labelled-all}
 use Rattle.matcher.proofs.Apart.{lastByte}
 use Rattle.matcher.proofs.Goes.{begins-all, goes-all}

@@ -8,11 +8,10 @@ use lib.Dec.{eqb}
 use borrow.Author.Tests.{eqb-true}
 use Rattle.buffer.specs.Lists.{all}
 use Rattle.matcher.specs.Bytes.{slash}
-use Rattle.matcher.specs.Labels.{labelsOf}
+use Rattle.matcher.specs.Labels.{labelsOf, Begun}
 use Rattle.matcher.specs.Form.{pathLabel, patternLabel, labelled, formedPath, formedPattern, tooLong, tooMany, pathForm, patternForm, isFine}
 use Rattle.matcher.specs.Fit.{fitsPath}
 use Rattle.matcher.specs.Matches.{matches}
-use Rattle.matcher.specs.Inner.{Begun}
 use Rattle.matcher.specs.declared.form.Form.the-variants.{Fine, TooLong, Malformed}
 use Rattle.buffer.proofs.Tests.{not-both, and-left, and-right}
 

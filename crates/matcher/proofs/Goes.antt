@@ -15,7 +15,8 @@ use Rattle.matcher.specs.Form.{apart, pathLabel, patternLabel}
 use Rattle.matcher.specs.Fit.{afterSome, fit, fitsLabel, fitLabels}
 use Rattle.matcher.specs.Reach.{beginsLabel, beginsLabels}
 use Rattle.buffer.proofs.Tests.{not-both, and-left, and-right, and-both, or-right, or-first, or-second}
-use Rattle.matcher.proofs.Trials.{now-some}
+use Rattle.buffer.proofs.Lists.{tested-append, tested-left}
+use Rattle.glob.proofs.Trials.{now-some}
 
 -- a byte of a pattern's label
 abbrev patternByte : ℕ → Bool
@@ -51,14 +52,6 @@ pattern-bytes l e = go (deep l) refl (and-right (not (none l)) (deep l || apart 
 -- the byte that a `*` takes: x
 abbrev pub filler : ℕ
 filler = 0x78
-
-all-append : {A : Type 0} (f : A → Bool) (s t : List A) → all f s ≡ true → all f t ≡ true → all f (s ++ t) ≡ true
-all-append f [] t e g = g
-all-append f (x ∷ s) t e g = and-both (and-left (f x) (all f s) e) (all-append f s t (and-right (f x) (all f s) e) g)
-
-pub all-left : {A : Type 0} (f : A → Bool) (s t : List A) → all f (s ++ t) ≡ true → all f s ≡ true
-all-left f [] t e = refl
-all-left f (x ∷ s) t e = and-both (and-left (f x) (all f (s ++ t)) e) (all-left f s t (and-right (f x) (all f (s ++ t)) e))
 
 some-after : {B : Type 0} (k : List B → Bool) (s t : List B) → k t ≡ true → afterSome k (s ++ t) ≡ true
 some-after k [] t e = now-some k t e
@@ -152,7 +145,7 @@ goes (c ∷ p) [] a b e = record { label = fill (c ∷ p); more = fill (c ∷ p)
 goes (c ∷ p) (x ∷ k) a b e = go (eqb star c) refl (goes p k (and-right (patternByte c) (all patternByte p) a) (and-right (labelByte x) (all labelByte k) b))
   where
     go : (d : Bool) → eqb star c ≡ d → (beginsLabel p k ≡ true → Goes p k) → Goes (c ∷ p) (x ∷ k)
-    go true q ih = record { label = (x ∷ k) ++ fill p; more = fill p; goes-on = refl; fits = rw q (some-after (fitsLabel p) (x ∷ k) (fill p) (fill-fits p)); bytes = all-append labelByte (x ∷ k) (fill p) b (fill-bytes p (and-right (patternByte c) (all patternByte p) a)); some = λ z. refl }
+    go true q ih = record { label = (x ∷ k) ++ fill p; more = fill p; goes-on = refl; fits = rw q (some-after (fitsLabel p) (x ∷ k) (fill p) (fill-fits p)); bytes = tested-append labelByte (x ∷ k) (fill p) b (fill-bytes p (and-right (patternByte c) (all patternByte p) a)); some = λ z. refl }
     go false q ih =
         let both : eqb c x && beginsLabel p k ≡ true = or-second (eqb c star) (eqb c x && beginsLabel p k) (ne-eqb c star (λ z. eqb-false star c q (sym z))) e in
         let g = ih (and-right (eqb c x) (beginsLabel p k) both) in
@@ -217,14 +210,14 @@ goes-all (p ∷ ps) (k ∷ []) (l ∷ ls) a x w s e = go (deep p) refl e
     more = fills-formed ps (and-right (patternLabel p) (all patternLabel ps) a)
 
     bytes : all labelByte k ≡ true
-    bytes = all-left labelByte k (x .0) (rw (x .1) (and-right (not (none l)) (all labelByte l) (and-left (pathLabel l) (all pathLabel ls) w)))
+    bytes = tested-left labelByte k (x .0) (rw (x .1) (and-right (not (none l)) (all labelByte l) (and-left (pathLabel l) (all pathLabel ls) w)))
 
     go : (b : Bool) → deep p ≡ b → b || beginsLabel p k ≡ true → GoesAll (p ∷ ps) (k ∷ [])
     go true q f = record {
       labels = (l ∷ ls) ++ map fill ps;
       goes-on = x;
       fits = fits-deep p ps (l ∷ ls) q;
-      formed = all-append pathLabel (l ∷ ls) (map fill ps) w more;
+      formed = tested-append pathLabel (l ∷ ls) (map fill ps) w more;
       some = refl;
     }
     go false q f =
@@ -243,7 +236,7 @@ goes-all (p ∷ ps) (k ∷ j ∷ ks) (l ∷ ls) a x w s e = go (deep p) refl e (
       labels = (l ∷ ls) ++ map fill ps;
       goes-on = ext-append (k ∷ j ∷ ks) (l ∷ ls) (map fill ps) x;
       fits = fits-deep p ps (l ∷ ls) q;
-      formed = all-append pathLabel (l ∷ ls) (map fill ps) w (fills-formed ps (and-right (patternLabel p) (all patternLabel ps) a));
+      formed = tested-append pathLabel (l ∷ ls) (map fill ps) w (fills-formed ps (and-right (patternLabel p) (all patternLabel ps) a));
       some = refl;
     }
     go false q f ih =

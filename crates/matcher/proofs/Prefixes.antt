@@ -15,9 +15,10 @@ use Rattle.matcher.specs.Bytes.{slash, endByte, labelByte}
 use Rattle.matcher.specs.Form.{apart, formedPath}
 use Rattle.matcher.specs.Reach.{beginsPath}
 use Rattle.buffer.proofs.Tests.{not-both, and-left, and-right, and-both}
-use Rattle.matcher.proofs.Parts.{last-place}
+use Rattle.buffer.proofs.Lists.{tested-left}
+use Rattle.glob.proofs.Parts.{last-place}
 use Rattle.matcher.proofs.Apart.{mayStand, lastByte, formed-bytes, ends-label}
-use Rattle.matcher.proofs.Goes.{filler, x-byte, all-left}
+use Rattle.matcher.proofs.Goes.{filler, x-byte}
 use Rattle.matcher.proofs.Joined.{byte-not}
 
 -- what `apart` says of a list it says of its first bytes
@@ -120,7 +121,7 @@ module _ (known path more : List ℕ) (is-path : formedPath path ≡ true) (goes
   -- where the last byte known is the end byte, the path is known whole
   pub closed-path : (length known ≡ 0 → ⊥) → lastByte known ≡ endByte → known ≡ path ++ (endByte ∷ [])
   closed-path f e = ⊎-elim (λ z. z)
-      (λ z. not-both (all-at noEnd known (length known - 1) (last-place (length known) f) (all-left noEnd known (z .0) (rw (z .1) (apart-no-end path (formed-apart path is-path))))) (rw e))
+      (λ z. not-both (all-at noEnd known (length known - 1) (last-place (length known) f) (tested-left noEnd known (z .0) (rw (z .1) (apart-no-end path (formed-apart path is-path))))) (rw e))
       (ends known more path goes-on)
 
   -- elsewhere it goes on

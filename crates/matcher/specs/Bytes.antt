@@ -4,14 +4,8 @@ use mathlib.Core.Bool.{Bool, not, _&&_, _||_}
 use lib.Dec.{eqb, leb}
 -- the most bytes of a path, and of a pattern
 pub use Rattle.buffer.specs.Sizes.{pathLimit}
-
--- `/`
-abbrev pub slash : ℕ
-slash = 0x2F
-
--- `*`
-abbrev pub star : ℕ
-star = 0x2A
+-- `/` and `*`
+pub use Rattle.glob.specs.Bytes.{slash, star}
 
 -- the end byte, which follows a path inside the index
 abbrev pub endByte : ℕ

@@ -1,4 +1,4 @@
--- What a reader must believe, from the bytes up. `Reading` and `Worked` show what it means, and `Inner` is for the private functions.
+-- What a reader must believe, from the bytes up. `Reading` and `Worked` show what it means.
 pub mod Bytes
 pub mod Labels
 pub mod Form
@@ -8,4 +8,3 @@ pub mod Continued
 pub mod Reach
 pub mod Reading
 pub mod Worked
-pub mod Inner

@@ -2,15 +2,16 @@
 -- bytes (`proofs/Decided.antt`). Assumes nothing: these are definitions.
 use Prim.Native.Nat.{ℕ, _-_}
 use mathlib.Core.Path.{_≡_}
-use mathlib.Core.List.{List, [], _∷_}
+use mathlib.Core.List.{List}
 use mathlib.Core.Bool.{Bool, true, false, cond, _&&_, _||_}
 use lib.ListN.{length, take, getD}
 use lib.Dec.{eqb}
 use Rattle.buffer.specs.Lists.{none}
-use Rattle.matcher.specs.Bytes.{slash, star}
-use Rattle.matcher.specs.Labels.{labelsOf, deep}
-use Rattle.matcher.specs.Fit.{fitsLabel, fitsPath}
+use Rattle.matcher.specs.Bytes.{slash}
+use Rattle.matcher.specs.Labels.{labelsOf}
+use Rattle.matcher.specs.Fit.{fitsPath}
 use Rattle.matcher.specs.Form.{apart, formedPath, patternForm, isFine}
+pub use Rattle.glob.specs.Begins.{beginsLabel, beginsLabels}
 use Rattle.matcher.specs.Continued.{ended, Told}
 use Rattle.matcher.specs.declared.reach.Answer.{Answer}
 use Rattle.matcher.specs.declared.reach.Answer.the-variants.{Match, Mismatch, Incomplete}
@@ -18,18 +19,6 @@ use Rattle.matcher.specs.declared.reach.Answer.the-variants.{Match, Mism
 -- bytes that begin a path: `/` first, then label bytes and `/`, of which no two stand together
 abbrev pub beginsPath : List ℕ → Bool
 beginsPath known = none known || (eqb (getD known 0 0) slash && apart slash known)
-
--- a label that may go on: its bytes agree with the pattern's up to the first `*`, after which all may follow
-abbrev pub beginsLabel : List ℕ → List ℕ → Bool
-beginsLabel [] k = none k
-beginsLabel (c ∷ p) [] = true
-beginsLabel (c ∷ p) (x ∷ k) = eqb c star || (eqb c x && beginsLabel p k)
-
--- labels of which the last may go on: they agree with the pattern's up to the first `**`, after which all may follow
-abbrev pub beginsLabels : List (List ℕ) → List (List ℕ) → Bool
-beginsLabels [] ks = none ks
-beginsLabels (p ∷ ps) [] = true
-beginsLabels (p ∷ ps) (k ∷ ks) = deep p || cond (none ks) (beginsLabel p k) (fitsLabel p k && beginsLabels ps ks)
 
 -- with the end byte the path is whole, and matches or does not
 abbrev pub reachWhole : List ℕ → List ℕ → Answer

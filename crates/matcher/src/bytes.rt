@@ -4,9 +4,8 @@ ghost use mathlib.Core.Path.{_≡_};
 ghost use Rattle.matcher.specs.Bytes.{labelByte};
 
 // `/` begins a label, `*` and `**` are wild, and END follows a path inside the index.
-pub const SLASH: u8 = 0x2F;
-
-pub const STAR: u8 = 0x2A;
+pub use glob::bytes::SLASH;
+pub use glob::bytes::STAR;
 
 pub const END: u8 = 0x00;
 

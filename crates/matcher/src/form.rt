@@ -4,19 +4,18 @@ use crate::bytes::PATTERN_LABEL_LIMIT;
 use crate::bytes::SLASH;
 use crate::bytes::STAR;
 use crate::bytes::label_byte;
-use crate::split::byte_at;
-use crate::split::is_deep;
-use crate::split::label_count;
-use crate::split::label_end;
+use glob::split::byte_at;
+use glob::split::is_deep;
+use glob::split::label_count;
+use glob::split::label_end;
 ghost use mathlib.Core.Path.{_≡_};
 ghost use mathlib.Core.Bool.{not, cond};
 ghost use lib.Dec.{eqb};
 ghost use Rattle.buffer.specs.Lists.{all};
 ghost use Rattle.matcher.specs.Bytes.{labelByte};
-ghost use Rattle.matcher.specs.Labels.{labelsOf};
+ghost use Rattle.matcher.specs.Labels.{labelsOf, Begun};
 ghost use Rattle.matcher.specs.Form.{apart, patternLabel, formedPath, formedPattern, pathForm, patternForm, isFine, pathNumber, patternNumber};
 ghost use Rattle.matcher.specs.Reach.{beginsPath};
-ghost use Rattle.matcher.specs.Inner.{Begun};
 
 // How a path or a pattern is formed. `TooLong`: over 200 bytes, or a pattern with over 32 `/`.
 pub enum Form {

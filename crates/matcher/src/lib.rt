@@ -2,7 +2,6 @@
 // can be continued to one that does. The search and the sprayer's filter stand on this crate.
 mod marks; // the table of the bytes of a label
 pub mod bytes; // the bytes of a label, and the sizes
-mod split; // where a label ends
 pub mod form; // is a path, is a pattern formed?
 pub mod fit; // does a path match a pattern?
 pub mod reach; // can a path that begins so match a pattern?

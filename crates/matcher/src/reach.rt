@@ -1,71 +1,22 @@
 // Can the first bytes of a path be continued to one that matches a pattern?
 use crate::bytes::END;
-use crate::bytes::STAR;
-use crate::fit::fits_formed;
-use crate::fit::label_fits;
 use crate::form::begins_path;
 use crate::form::check_pattern;
 use crate::form::is_fine;
 use crate::form::is_path;
-use crate::split::is_deep;
-use crate::split::label_end;
-use crate::split::label_len;
+use glob::begin::labels_begin;
+use glob::fit::fits_formed;
+use glob::split::label_len;
 ghost use mathlib.Core.Path.{_≡_};
 ghost use mathlib.Core.Bool.{true};
-ghost use Rattle.matcher.specs.Labels.{labelsOf};
 ghost use Rattle.matcher.specs.Form.{patternForm, isFine};
-ghost use Rattle.matcher.specs.Reach.{beginsLabel, beginsLabels, reachWhole, reachOpen, reachFormed, Reached};
-ghost use Rattle.matcher.specs.Inner.{Begun};
+ghost use Rattle.matcher.specs.Reach.{reachWhole, reachOpen, reachFormed, Reached};
 
 // What the bytes known of a path say of a pattern.
 pub enum Answer {
     Match,
     Mismatch,
     Incomplete,
-}
-
-// Can a label that begins with k fit a label of a pattern?
-fn label_begins(p: &[u8], k: &[u8]) -> bool
-    ensures { λ r. ⌜ r ≡ beginsLabel (now (p .entry)) (now (k .entry)) ⌝ }
-{
-    if p.len() == 0 {
-        return k.len() == 0;
-    }
-    if k.len() == 0 {
-        return true;
-    }
-    if p[0] == STAR {
-        return true;
-    }
-    if p[0] == k[0] {
-        return label_begins(&p[1..], &k[1..]);
-    }
-    false
-}
-
-// Can labels, of which the last may go on, fit the pattern that remains?
-fn labels_begin(pattern: &[u8], known: &[u8]) -> bool
-    requires { ⌜ Begun (now pattern) × Begun (now known) ⌝ }
-    ensures { λ r. ⌜ r ≡ beginsLabels (labelsOf (now (pattern .entry))) (labelsOf (now (known .entry))) ⌝ }
-{
-    if pattern.len() == 0 {
-        return known.len() == 0;
-    }
-    if known.len() == 0 {
-        return true;
-    }
-    let a = label_end(pattern);
-    let b = label_end(known);
-    if is_deep(&pattern[1..a]) {
-        return true;
-    }
-    if b == known.len() {
-        return label_begins(&pattern[1..a], &known[1..b]);
-    }
-    if label_fits(&pattern[1..a], &known[1..b]) {
-        return labels_begin(&pattern[a..], &known[b..]);
-    }
-    false
 }
 
 // The path is known whole.

@@ -6,6 +6,7 @@ use mathlib.Core.List.{List, [], _∷_, _++_, map}
 use lib.ListN.{length, take}
 use Rattle.buffer.specs.Lists.{pick}
 use Rattle.rows.specs.Sizes.{valueSize, nodeLimit, recordSize}
+use Rattle.trie_read.specs.Sizes.{headSize}
 use Rattle.trie_theory.specs.Forest.{Strings, Key, Forest, none, leaf, inner, join, under}
 use Rattle.trie_theory.specs.Size.{height}
 use Rattle.trie_theory.specs.Encode.{Regular, encode}
@@ -58,7 +59,7 @@ pub record Descended (v p : ℕ) (t : List ℕ) (path body n kind : ℕ) (k w k'
   pub entered : Entered v p t path body k k' r
   pub kept : take (nodeSize * n) w' ≡ take (nodeSize * n) w
   pub noted : r ≡ true
-      → take (nodeSize * (n + 1)) w' ≡ take (nodeSize * n) w ++ nodeOf (known (v + (path - 7)) (p + (body - path)) k') kind
+      → take (nodeSize * (n + 1)) w' ≡ take (nodeSize * n) w ++ nodeOf (known (v + (path - headSize)) (p + (body - path)) k') kind
 
 -- what the walk asks for: room for as many records in the answer, a counter that does not overflow, the two buffers
 pub record Ready (t k w s : List ℕ) (v p n room rows : ℕ) : Type 0 where

@@ -6,6 +6,7 @@ use gather::key::enter;
 use rows::sizes::NODE_LIMIT;
 use rows::sizes::RECORD_SIZE;
 use rows::sizes::ROW_SIZE;
+use trie_read::sizes::HEAD_SIZE;
 ghost use mathlib.Core.Path.{_≡_};
 ghost use mathlib.Core.Bool.{cond};
 ghost use Prim.Native.Nat.{_+_, _*_, _<_, _≤_};
@@ -14,6 +15,7 @@ ghost use lib.ListN.{length, take};
 ghost use lib.Dec.{ltb};
 ghost use Rattle.buffer.specs.Splice.{splice};
 ghost use Rattle.rows.specs.Sizes.{valueSize, nodeLimit, recordSize};
+ghost use Rattle.trie_read.specs.Sizes.{headSize};
 ghost use Rattle.entries.specs.Slots.{slotSize};
 ghost use Rattle.gather.specs.KeySlots.{endedLimit};
 ghost use Rattle.read_back.specs.Readings.{nodeSize, waySize, recordBytes};
@@ -52,12 +54,12 @@ pub(crate) fn descend(
     n: usize,
     kind: usize,
 ) -> bool
-    requires { ⌜ (length (now key) ≡ slotSize) × (v ≤ valueSize) × (p ≤ endedLimit) × (7 ≤ path) × (path ≤ body) × (body ≤ length (now t)) ⌝ }
+    requires { ⌜ (length (now key) ≡ slotSize) × (v ≤ valueSize) × (p ≤ endedLimit) × (headSize ≤ path) × (path ≤ body) × (body ≤ length (now t)) ⌝ }
     requires { ⌜ (length (now way) ≡ waySize) × (n < nodeLimit) × (kind < 256) ⌝ }
     ensures { λ r. ⌜ Descended v p (now (t .entry)) path body n kind (now (key .entry)) (now (way .entry)) (now (key .exit)) (now (way .exit)) r ⌝ }
 {
     if enter(key, v, p, t, path, body) {
-        note(way, n, kind, v + (path - 7), p + (body - path));
+        note(way, n, kind, v + (path - HEAD_SIZE), p + (body - path));
         return true;
     }
     false

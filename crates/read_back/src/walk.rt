@@ -8,6 +8,7 @@ use gather::key::compose;
 use rows::sizes::NODE_LIMIT;
 use trie_read::head::Head;
 use trie_read::head::read_head;
+use trie_read::sizes::HEAD_SIZE;
 use trie_read::suffixes::Tail;
 use trie_read::suffixes::read_suffix;
 ghost use mathlib.Core.Path.{_≡_};
@@ -96,7 +97,7 @@ fn walk(
                         &t[start..next],
                         own,
                         key,
-                        v + (path - 7),
+                        v + (path - HEAD_SIZE),
                         p + (start - path),
                         way,
                         n + 1,

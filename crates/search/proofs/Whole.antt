@@ -6,7 +6,8 @@ use mathlib.Core.List.{List, [], _∷_, _++_, map}
 use native.Mathlib.Omega.{arith}
 use lib.ListN.{length}
 use Rattle.buffer.specs.Lists.{all, pick}
-use Rattle.buffer.proofs.Tests.{and-left, and-right, and-both}
+use Rattle.buffer.proofs.Lists.{tested-left, tested-right}
+use Rattle.buffer.proofs.Tests.{and-left, and-right}
 use Rattle.rows.specs.Sizes.{nodeLimit}
 use Rattle.trie_theory.specs.Forest.{Strings, Key, Forest, none, leaf, inner, join, under, keys, tops}
 use Rattle.trie_theory.specs.Dimensions.{Above, root, below}
@@ -21,14 +22,6 @@ use Rattle.gather.proofs.Gathering.{known-nothing}
 use Rattle.gather.proofs.Splitting.{join-longer, blank, keys-root}
 use Rattle.search.specs.Steps.{rootKind, over, takes}
 use Rattle.search.specs.Searches.{Searched, TrieSearched, TrieFound, BodyFound, Short, Roomy}
-
-all-first : {A : Type 0} (t : A → Bool) (xs ys : List A) → all t (xs ++ ys) ≡ true → all t xs ≡ true
-all-first t [] ys h = refl
-all-first t (x ∷ xs) ys h = and-both (and-left (t x) (all t (xs ++ ys)) h) (all-first t xs ys (and-right (t x) (all t (xs ++ ys)) h))
-
-all-second : {A : Type 0} (t : A → Bool) (xs ys : List A) → all t (xs ++ ys) ≡ true → all t ys ≡ true
-all-second t [] ys h = h
-all-second t (x ∷ xs) ys h = all-second t xs ys (and-right (t x) (all t (xs ++ ys)) h)
 
 -- ---- room
 
@@ -47,22 +40,22 @@ short-leaf k (t ∷ ts) l h = short-under k t (and-left (hasSlot (under k t)) (a
 short-tries : (n : ℕ) (above : Above) (k : Strings) (f : Forest) → Sound n above f → 1 ≤ length (tops f) → all hasSlot (keys k f) ≡ true → Short k
 unfolding Sound keys tops
 short-tries n above k none s l h = absurd (omega arith)
-short-tries n above k (leaf c ts more) s l h = short-join k c (short-leaf (join k c) ts (s .1) (all-first hasSlot (map (under (join k c)) ts) (keys k more) h))
+short-tries n above k (leaf c ts more) s l h = short-join k c (short-leaf (join k c) ts (s .1) (tested-left hasSlot (map (under (join k c)) ts) (keys k more) h))
 short-tries n above k (inner d c kids more) s l h =
-    short-join k c (short-tries n (below d) (join k c) kids (s .2) (omega (arith, s .1)) (all-first hasSlot (keys (join k c) kids) (keys k more) h))
+    short-join k c (short-tries n (below d) (join k c) kids (s .2) (omega (arith, s .1)) (tested-left hasSlot (keys (join k c) kids) (keys k more) h))
 
 pub roomy : (n : ℕ) (above : Above) (k : Strings) (f : Forest) → Sound n above f → all hasSlot (keys k f) ≡ true → Roomy k f
 unfolding Sound keys Roomy
 roomy n above k none s h = tt
 roomy n above k (leaf c ts more) s h =
     let xs = map (under (join k c)) ts in
-    (short-leaf (join k c) ts (s .1) (all-first hasSlot xs (keys k more) h), roomy n above k more (s .3) (all-second hasSlot xs (keys k more) h))
+    (short-leaf (join k c) ts (s .1) (tested-left hasSlot xs (keys k more) h), roomy n above k more (s .3) (tested-right hasSlot xs (keys k more) h))
 roomy n above k (inner d c kids more) s h =
     let xs = keys (join k c) kids in
-    let own = all-first hasSlot xs (keys k more) h in (
+    let own = tested-left hasSlot xs (keys k more) h in (
       short-tries n (below d) (join k c) kids (s .2) (omega (arith, s .1)) own,
       roomy n (below d) (join k c) kids (s .2) own,
-      roomy n above k more (s .3) (all-second hasSlot xs (keys k more) h),
+      roomy n above k more (s .3) (tested-right hasSlot xs (keys k more) h),
     )
 
 -- ---- what matches has a slot
@@ -80,12 +73,12 @@ unfolding found keys
 found-takes q reach above k none h = refl
 found-takes q reach above k (leaf s ts more) h =
     let xs = map (under (join k s)) ts in
-    ap₂ _++_ (ap (λ (l : List Key). cond (enters reach above k s) l []) (pick-takes q xs (all-first hasSlot xs (keys k more) h)))
-    (found-takes q reach above k more (all-second hasSlot xs (keys k more) h))
+    ap₂ _++_ (ap (λ (l : List Key). cond (enters reach above k s) l []) (pick-takes q xs (tested-left hasSlot xs (keys k more) h)))
+    (found-takes q reach above k more (tested-right hasSlot xs (keys k more) h))
 found-takes q reach above k (inner d s kids more) h =
     let xs = keys (join k s) kids in
-    ap₂ _++_ (ap (λ (l : List Key). cond (enters reach above k s) l []) (found-takes q reach (below d) (join k s) kids (all-first hasSlot xs (keys k more) h)))
-    (found-takes q reach above k more (all-second hasSlot xs (keys k more) h))
+    ap₂ _++_ (ap (λ (l : List Key). cond (enters reach above k s) l []) (found-takes q reach (below d) (join k s) kids (tested-left hasSlot xs (keys k more) h)))
+    (found-takes q reach above k more (tested-right hasSlot xs (keys k more) h))
 
 -- ---- the root: nothing is known
 

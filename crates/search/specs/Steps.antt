@@ -11,6 +11,7 @@ use Rattle.trie_theory.specs.Forest.{Key, join}
 use Rattle.trie_theory.specs.Dimensions.{Above, root, below}
 use Rattle.trie_theory.specs.Search.{enters}
 use Rattle.entries.specs.Query.{Query, reaches, wants}
+use Rattle.trie_read.specs.Sizes.{headSize}
 use Rattle.trie_read.specs.Shape.{part}
 use Rattle.gather.specs.KeySlots.{endedLimit, hasSlot, keySlot, known, suffixKey}
 unfoldable pub use Rattle.gather.specs.KeySlots.{keyRow}
@@ -35,12 +36,12 @@ over kind = cond (eqb kind rootKind) root (below (kind - 1))
 unfoldable pub takes : Query → Key → Bool
 takes q x = hasSlot x && wants q x
 
--- The step to a node of the bytes t, whose strings are t[7..path] and t[path..body]: its strings have room behind the known bytes, and a search enters it
+-- The step to a node of the bytes t, whose strings are t[headSize..path] and t[path..body]: its strings have room behind the known bytes, and a search enters it
 pub record Descended (q : Query) (kind v p : ℕ) (t : List ℕ) (path body : ℕ) (k k' : List ℕ) (r : Bool) : Type 0 where
   pub is : r
-      ≡ (leb (v + (path - 7)) valueSize && leb (p + (body - path)) endedLimit)
-      && enters (reaches q) (over kind) (known v p k) (part 7 path t ∷ part path body t ∷ [])
-  pub joins : r ≡ true → known (v + (path - 7)) (p + (body - path)) k' ≡ join (known v p k) (part 7 path t ∷ part path body t ∷ [])
+      ≡ (leb (v + (path - headSize)) valueSize && leb (p + (body - path)) endedLimit)
+      && enters (reaches q) (over kind) (known v p k) (part headSize path t ∷ part path body t ∷ [])
+  pub joins : r ≡ true → known (v + (path - headSize)) (p + (body - path)) k' ≡ join (known v p k) (part headSize path t ∷ part path body t ∷ [])
   pub kept : known v p k' ≡ known v p k
 
 -- The step to the key of the suffix in b[..next]: is it taken? Then the buffer is its slot

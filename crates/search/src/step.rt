@@ -6,6 +6,7 @@ use matcher::reach::Answer;
 use matcher::reach::reach_formed;
 use rows::sizes::PATH_AT;
 use rows::sizes::VALUE_SIZE;
+use trie_read::sizes::HEAD_SIZE;
 ghost use mathlib.Core.Path.{_≡_};
 ghost use mathlib.Core.Bool.{true, cond, _&&_};
 ghost use Prim.Native.Nat.{_+_, _-_, _≤_};
@@ -17,6 +18,7 @@ ghost use Rattle.matcher.specs.Form.{patternForm, isFine};
 ghost use Rattle.matcher.specs.Reach.{reachOf};
 ghost use Rattle.rows.specs.Sizes.{valueSize, pathAt};
 ghost use Rattle.trie_theory.specs.Search.{enters};
+ghost use Rattle.trie_read.specs.Sizes.{headSize, suffixSize};
 ghost use Rattle.entries.specs.Slots.{slotSize};
 ghost use Rattle.entries.specs.Query.{valueReach, reaches, isMatch};
 ghost use Rattle.gather.specs.KeySlots.{endedLimit, known};
@@ -136,11 +138,21 @@ pub(crate) fn descend(
     high: u64,
 ) -> bool
     requires { ⌜ isFine (patternForm (now pattern)) ≡ true ⌝ }
-    requires { ⌜ (length (now key) ≡ slotSize) × (v ≤ valueSize) × (p ≤ endedLimit) × (7 ≤ path) × (path ≤ body) × (body ≤ length (now t)) × (kind ≡ 0 → ⊥) ⌝ }
+    requires { ⌜ (length (now key) ≡ slotSize) × (v ≤ valueSize) × (p ≤ endedLimit) × (headSize ≤ path) × (path ≤ body) × (body ≤ length (now t)) × (kind ≡ 0 → ⊥) ⌝ }
     ensures { λ r. ⌜ Descended (asked (now (pattern .entry)) low high) kind v p (now (t .entry)) path body (now (key .entry)) (now (key .exit)) r ⌝ }
 {
     if enter(key, v, p, t, path, body) {
-        return admits(kind, pattern, low, high, key, v, p, path - 7, body - path);
+        return admits(
+            kind,
+            pattern,
+            low,
+            high,
+            key,
+            v,
+            p,
+            path - HEAD_SIZE,
+            body - path,
+        );
     }
     false
 }
@@ -158,7 +170,7 @@ pub(crate) fn take_key(
     high: u64,
 ) -> bool
     requires { ⌜ isFine (patternForm (now pattern)) ≡ true ⌝ }
-    requires { ⌜ (length (now key) ≡ slotSize) × (v ≤ valueSize) × (p ≤ endedLimit) × (22 ≤ path) × (path ≤ next) × (next ≤ length (now b)) ⌝ }
+    requires { ⌜ (length (now key) ≡ slotSize) × (v ≤ valueSize) × (p ≤ endedLimit) × (suffixSize ≤ path) × (path ≤ next) × (next ≤ length (now b)) ⌝ }
     ensures { λ r. ⌜ Taken (asked (now (pattern .entry)) low high) v p (now (b .entry)) path next (now (key .entry)) (now (key .exit)) r ⌝ }
 {
     if compose(key, v, p, b, path, next) {

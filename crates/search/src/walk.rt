@@ -9,6 +9,7 @@ use rows::sizes::NODE_LIMIT;
 use rows::sizes::ROW_SIZE;
 use trie_read::head::Head;
 use trie_read::head::read_head;
+use trie_read::sizes::HEAD_SIZE;
 use trie_read::suffixes::Tail;
 use trie_read::suffixes::read_suffix;
 ghost use mathlib.Core.Path.{_≡_};
@@ -114,7 +115,7 @@ fn walk(
                         low,
                         high,
                         key,
-                        v + (path - 7),
+                        v + (path - HEAD_SIZE),
                         p + (start - path),
                         depth - 1,
                         answer,

@@ -1,7 +1,8 @@
 // How many bytes a trie has at the beginning of its region: its root says so. A region without a trie is all zeros, and a node's body is never empty.
 use buffer::numbers::get32;
 use trie_read::head::wide;
-use trie_read::sizes::FRONT_SIZE;
+use trie_read::head::wide32;
+use trie_read::sizes::HEAD_SIZE;
 ghost use mathlib.Core.Path.{_≡_};
 ghost use mathlib.Core.List.{List, _++_};
 ghost use Prim.Native.Nat.{ℕ, _≤_};
@@ -17,14 +18,14 @@ pub fn trie_length(t: &[u8]) -> usize
     ensures { λ r.
         ⌜ ((f : Forest) (n : ℕ) → Sound 2 root f → Regular 2 f → now (t .entry) ≡ encode f ++ replicate n 0 → r ≡ length (encode f)) ⌝ }
 {
-    if t.len() < FRONT_SIZE {
+    if t.len() < HEAD_SIZE {
         return 0;
     }
-    let body = crate::front::wide(get32(t, 3));
+    let body = wide32(get32(t, 3));
     if body == 0 {
         return 0;
     }
-    let n = FRONT_SIZE + wide(t[1]) + wide(t[2]) + body;
+    let n = HEAD_SIZE + wide(t[1]) + wide(t[2]) + body;
     if n <= t.len() {
         return n;
     }

@@ -6,6 +6,7 @@ ghost use lib.ListN.{length};
 ghost use Rattle.book.specs.Front.{inLimits, need};
 ghost use Rattle.store.specs.Opening.{Reads, OpenedAs};
 use buffer::numbers::get32;
+use trie_read::head::wide32;
 
 // Document 01's limits of M, L and τ.
 pub const M_LIMIT: u64 = 4096;
@@ -79,22 +80,16 @@ pub enum Opened {
     Missing,
 }
 
-pub(crate) fn wide(x: u32) -> usize
-    ensures { λ r. ⌜ (r ≡ x) × (r < 4294967296) ⌝ }
-{
-    x as usize
-}
-
 // Reads the four numbers.
 fn read_front(store: &[u8]) -> Front
     requires { ⌜ 16 ≤ length (now store) ⌝ }
     ensures { λ r. ⌜ Reads (now (store .entry)) r ⌝ }
 {
     Front {
-        m: wide(get32(store, 0)),
-        l: wide(get32(store, 4)),
-        tau: wide(get32(store, 8)),
-        held: wide(get32(store, 12)),
+        m: wide32(get32(store, 0)),
+        l: wide32(get32(store, 4)),
+        tau: wide32(get32(store, 8)),
+        held: wide32(get32(store, 12)),
     }
 }
 

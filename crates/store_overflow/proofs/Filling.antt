@@ -5,9 +5,8 @@ use mathlib.Core.Bool.{true}
 use mathlib.Core.List.{List, [], _∷_, _++_, append-assoc, map}
 use native.Mathlib.Omega.{arith}
 use native.Mathlib.Nat.{mul-assoc, mul-le-mul}
-use native.Mathlib.Numerals.{add-one}
 use lib.Pow.{pow-pos}
-use lib.ListN.{length, take, drop, replicate, length-append, length-replicate}
+use lib.ListN.{length, drop, replicate, length-append, length-replicate}
 use lib.Seq.{take-at, take-all}
 use Rattle.buffer.specs.Lists.{all, flat}
 use Rattle.buffer.specs.Splice.{splice, region}
@@ -15,7 +14,7 @@ use Rattle.buffer.proofs.Lists.{map-append}
 use Rattle.buffer.proofs.Splice.{splice-then, splice-front, length-splice, drop-at-splice}
 use Rattle.matcher.specs.Bytes.{pathLimit}
 use Rattle.rows.specs.Sizes.{referenceSize, rowSize}
-use Rattle.rows.specs.Entry.{Entry, row, fitsRow}
+use Rattle.rows.specs.Entry.{Entry, fitsRow}
 use Rattle.rows.specs.Order.{entryOrder, recordOrder}
 use Rattle.rows.specs.Sorted.{sorted}
 use Rattle.rows.specs.Records.{records}
@@ -29,7 +28,7 @@ use Rattle.entries.specs.Slots.{slotSize, slot, slotKey, shortPath}
 use Rattle.entries.proofs.Slots.{records-slots, length-slots}
 use Rattle.trie_sets.specs.Sets.{keysOf, shortPaths}
 use Rattle.trie_build.proofs.Entries.{entries-keys}
-use Rattle.gather.proofs.Putting.{all-both}
+use Rattle.buffer.proofs.Lists.{tested-append}
 use Rattle.book.specs.Front.{Front, frontRoom, entryRoom, need}
 use Rattle.book.specs.Tries.{Tries, every, levelTrie}
 use Rattle.book.specs.FromTries.{entriesOf, entriesIn}
@@ -38,11 +37,11 @@ use Rattle.book.specs.Good.{GoodTries}
 use Rattle.book.proofs.Book.{all-snoc}
 use Rattle.book.proofs.EntryKeys.{keys-of-entries}
 use Rattle.store.specs.Parts.{regionAt, regionSize, numbered, upTo}
-use Rattle.store.proofs.Places.{region-within, upTo-next, good-numbered}
+use Rattle.store.proofs.Places.{region-within, good-numbered}
 use Rattle.store_overflow.specs.Steps.{slotsAt, levelBytes, FirstGathered, Filled}
 use Rattle.store_overflow.proofs.Placing.{splice-under, length-put, put-short}
 use Rattle.store_overflow.proofs.LevelBytes.{length-level}
-use Rattle.store_overflow.proofs.FirstTries.{flat-map-append, flat-map-one, records-append}
+use Rattle.store_overflow.proofs.FirstTries.{entries-next, records-append}
 
 -- ---- the most entries of level j
 
@@ -79,8 +78,10 @@ unfolding slot keysOf
 slots-keys xs h =
     let ys = sorted entryOrder xs in
     let g = all-sorted entryOrder fitsRow xs h in
-    let whole : region (flat (map slot ys)) 0 (length ys * slotSize) ≡ flat (map slot ys) = take-all (length ys * slotSize) (flat (map slot ys)) (omega (arith, length-slots ys g)) in
-    ap (map slotKey) (sorted-records (λ e. replicate (slotSize - rowSize) 0) xs h ∙ sym (records-slots ys g)) ∙ entries-keys (flat (map slot ys)) 0 ys g whole
+    let whole : region (flat (map slot ys)) 0 (length ys * slotSize) ≡ flat (map slot ys) =
+    take-all (length ys * slotSize) (flat (map slot ys)) (omega (arith, length-slots ys g)) in
+    ap (map slotKey) (sorted-records (λ e. replicate (slotSize - rowSize) 0) xs h ∙ sym (records-slots ys g))
+    ∙ entries-keys (flat (map slot ys)) 0 ys g whole
 
 -- the entries of good tries have rows
 fit-first : (f : Front) (t : Tries) → GoodTries f t → (k : ℕ) → k ≤ suc (f .L) → all fitsRow (flat (map entriesOf (upTo k t))) ≡ true
@@ -88,15 +89,14 @@ unfolding flat
 fit-first f t g zero h = refl
 fit-first f t g (suc k) h =
     let own = keys-of-entries (numbered t k) (good-numbered f t g k (omega arith) .entries) .1 in
-    let e : flat (map entriesOf (upTo (suc k) t)) ≡ flat (map entriesOf (upTo k t)) ++ entriesOf (numbered t k) =
-    ap (λ (fs : List Forest). flat (map entriesOf fs)) (upTo-next k t) ∙ flat-map-append entriesOf (upTo k t) (numbered t k ∷ [])
-    ∙ ap (λ (es : List Entry). flat (map entriesOf (upTo k t)) ++ es) (flat-map-one entriesOf (numbered t k)) in
-    ap (all fitsRow) e ∙ all-both fitsRow (flat (map entriesOf (upTo k t))) (entriesOf (numbered t k)) (fit-first f t g k (omega arith)) own
+    ap (all fitsRow) (entries-next k t) ∙ tested-append fitsRow (flat (map entriesOf (upTo k t))) (entriesOf (numbered t k))
+    (fit-first f t g k (omega arith)) own
 
 -- ---- the level
 
-module _ (m l τ j x n : ℕ) (e : Entry) (short : length (e .path) ≤ pathLimit) (twenty : length (e .reference) ≡ referenceSize) (z : Sized m l j x) (s s₁ s₂ : List ℕ)
-    (room : need m l ≤ length s) (low : j < l) (g : FirstGathered m l (j + 1) (slotsAt (frontRoom + entryRoom * x) x) (x - 1) s s₁ n)
+module _ (m l τ j k x n : ℕ) (e : Entry) (short : length (e .path) ≤ pathLimit) (twenty : length (e .reference) ≡ referenceSize)
+    (z : Sized m l j x) (s s₁ s₂ : List ℕ)
+    (room : need m l ≤ length s) (low : j < l) (g : FirstGathered m l k (slotsAt (frontRoom + entryRoom * x) x) (x - 1) s s₁ n)
     (put : s₂ ≡ splice s₁ (slotsAt (frontRoom + entryRoom * x) x + n * slotSize) (slot e)) where
   abbrev base : ℕ
   base = frontRoom + entryRoom * x
@@ -110,16 +110,17 @@ module _ (m l τ j x n : ℕ) (e : Entry) (short : length (e .path) ≤ pathLimi
   length-both : length both ≡ (n + 1) * slotSize
   length-both = omega (arith, length-append (g .bytes) (slot e), g .long, length-put e short twenty)
 
-  pub few : n + 1 ≤ x
+  few : n + 1 ≤ x
   few = omega (arith, g .most, z .some)
 
   inside : slots + length both ≤ length s
   inside = omega (arith, length-both, few, z .fits)
 
   second : s₂ ≡ splice s slots both
-  second = put ∙ splice-then s₁ s slots (g .bytes) (slots + n * slotSize) (slot e) (g .is) (omega (arith, g .long)) (omega (arith, length-both, length-append (g .bytes) (slot e), inside))
+  second = put ∙ splice-then s₁ s slots (g .bytes) (slots + n * slotSize) (slot e) (g .is)
+      (omega (arith, g .long)) (omega (arith, length-both, length-append (g .bytes) (slot e), inside))
 
-  pub long₂ : length s₂ ≡ length s
+  long₂ : length s₂ ≡ length s
   long₂ = ap length second ∙ length-splice s slots both inside
 
   slots-are : records slotSize (n + 1) (drop slots s₂) ≡ records slotSize n (g .bytes) ++ (slot e ∷ [])
@@ -151,7 +152,8 @@ module _ (m l τ j x n : ℕ) (e : Entry) (short : length (e .path) ≤ pathLimi
   wrote s₃ s₄ a b =
       let third : s₃ ≡ splice s base level-bytes =
       a ∙ ap (λ (t : List ℕ). splice t base level-bytes) second
-      ∙ splice-under s slots both base level-bytes (omega arith) (omega (arith, length-both, length-bytes, few)) (omega (arith, length-bytes, z .fits)) in
+      ∙ splice-under s slots both base level-bytes (omega arith) (omega (arith, length-both, length-bytes, few))
+      (omega (arith, length-bytes, z .fits)) in
       b ∙ splice-front s s₃ frontRoom base zeros level-bytes third (omega (arith, length-zeros)) (omega (arith, length-bytes, z .fits))
 
   -- what was gathered, of tries fs
@@ -159,27 +161,28 @@ module _ (m l τ j x n : ℕ) (e : Entry) (short : length (e .path) ≤ pathLimi
   FirstFrom fs = let es = flat (map entriesOf fs) in length es ≤ x - 1 → (n ≡ length es) × (g .bytes ≡ flat (map slot es))
 
   -- of good tries: the level of their entries and e
-  of-entries : (f : Front) (t : Tries) → f .M ≡ m → f .L ≡ l → GoodTries f t → Holds s f t → fitsRow e ≡ true → length (entriesIn j t) + 1 ≤ m * 2 ^ j
+  of-entries : k ≡ suc j → (f : Front) (t : Tries) → f .M ≡ m → f .L ≡ l → GoodTries f t → Holds s f t → fitsRow e ≡ true → length (entriesIn j t) + 1 ≤ m * 2 ^ j
       → level-bytes ≡ padded (entryRoom * x) (encode (levelTrie τ (entriesIn j t ++ (e ∷ []))))
   unfolding levelBytes levelTrie entriesIn
-  of-entries f t em el good h fit most =
+  of-entries here f t em el good h fit most =
       let es = flat (map entriesOf (every j t)) in
       let xs = es ++ (e ∷ []) in
-      let first : FirstFrom (every j t) = subst FirstFrom (ap (λ (k : ℕ). upTo k t) (add-one j)) (g .entries f t em el good h) in
+      let first : FirstFrom (every j t) = subst FirstFrom (ap (λ (i : ℕ). upTo i t) here) (g .entries f t em el good h) in
       let r = first (omega (arith, z .is)) in
       let rows = fit-first f t good (suc j) (omega (arith, el, low)) in
       let all-slots : records slotSize (n + 1) (drop slots s₂) ≡ map slot xs =
-      slots-are ∙ ap (λ (rs : List (List ℕ)). rs ++ (slot e ∷ [])) (ap₂ (records slotSize) (r .0) (r .1) ∙ records-slots es rows) ∙ sym (map-append slot es (e ∷ [])) in
+      slots-are ∙ ap (λ (rs : List (List ℕ)). rs ++ (slot e ∷ [])) (ap₂ (records slotSize) (r .0) (r .1) ∙ records-slots es rows)
+      ∙ sym (map-append slot es (e ∷ [])) in
       ap (λ (rs : List (List ℕ)). padded (entryRoom * x) (encode (levelOf 2 τ (map slotKey (sorted recordOrder rs))))) all-slots
       ∙ ap (λ (ks : List Key). padded (entryRoom * x) (encode (levelOf 2 τ ks))) (slots-keys xs (all-snoc fitsRow es e rows fit))
 
-  pub filled : (s₃ s₄ : List ℕ) → s₃ ≡ splice s₂ base level-bytes → s₄ ≡ splice s₃ frontRoom zeros → Filled m l τ j e s s₄
-  filled s₃ s₄ a b =
+  pub filled : k ≡ suc j → (s₃ s₄ : List ℕ) → s₃ ≡ splice s₂ base level-bytes → s₄ ≡ splice s₃ frontRoom zeros → Filled m l τ j e s s₄
+  filled here s₃ s₄ a b =
       record {
         bytes = zeros ++ level-bytes;
         is = wrote s₃ s₄ a b;
         long = omega (arith, length-append zeros level-bytes, length-zeros, length-bytes, z .room);
         entries = λ f t em el good h fit most.
-            ap (λ (b : List ℕ). zeros ++ b) (of-entries f t em el good h fit most)
+            ap (λ (b : List ℕ). zeros ++ b) (of-entries here f t em el good h fit most)
             ∙ ap (λ (k : ℕ). replicate k 0 ++ padded k (encode (levelTrie τ (entriesIn j t ++ (e ∷ []))))) (z .room);
       }

@@ -1,17 +1,16 @@
 -- Slots sorted, and the level of their keys built before them. Assumes nothing.
-use Prim.Native.Nat.{ℕ, zero, suc, _+_, _*_, _-_, _^_, _≤_, _<_}
+use Prim.Native.Nat.{ℕ, zero, suc, _+_, _*_, _-_, _≤_}
 use mathlib.Core.Path.{_≡_, refl, sym, ap, _∙_}
 use mathlib.Core.Bool.{true}
-use mathlib.Core.List.{List, [], _∷_, _++_, map}
+use mathlib.Core.List.{List, [], _++_, map}
 use native.Mathlib.Omega.{arith}
 use lib.ListN.{length, take, drop, replicate, length-append, length-drop, length-replicate}
 use lib.Seq.{length-take-le}
-use lib.Dec.{eqb}
 use borrow.Author.Tests.{eq-eqb}
 use Rattle.buffer.specs.Lists.{all, flat}
 use Rattle.buffer.specs.Splice.{splice, region}
 use Rattle.buffer.proofs.Splice.{length-splice, drop-at-splice}
-use Rattle.buffer.proofs.Tests.{and-both}
+use Rattle.buffer.proofs.Tests.{and-left, and-right, and-both}
 use Rattle.rows.specs.Order.{recordOrder}
 use Rattle.rows.specs.Sorted.{sorted}
 use Rattle.rows.specs.Records.{records}
@@ -35,21 +34,34 @@ records-wide : (n : ℕ) (t : List ℕ) → n * slotSize ≤ length t → all (w
 unfolding records
 records-wide zero t h = refl
 records-wide (suc n) t h =
-    and-both (eq-eqb (length (take slotSize t)) slotSize (length-take-le slotSize t (omega arith))) (records-wide n (drop slotSize t) (rw (length-drop slotSize t) (omega arith)))
+    and-both (eq-eqb (length (take slotSize t)) slotSize (length-take-le slotSize t (omega arith)))
+    (records-wide n (drop slotSize t) (rw (length-drop slotSize t) (omega arith)))
+
+-- fewer slots
+pub fewer-short : (k n : ℕ) (t : List ℕ) → k ≤ n → shortPaths n t ≡ true → shortPaths k t ≡ true
+unfolding shortPaths records
+fewer-short zero n t h a = refl
+fewer-short (suc k) zero t h a = absurd (omega arith)
+fewer-short (suc k) (suc n) t h a =
+    let x = shortPath (take slotSize t) in
+    let rest = all shortPath (records slotSize n (drop slotSize t)) in
+    and-both (and-left x rest a) (fewer-short k n (drop slotSize t) (omega arith) (and-right x rest a))
 
 module _ (s : List ℕ) (slots n : ℕ) (h : slots + n * slotSize ≤ length s) where
   abbrev rs : List (List ℕ)
   rs = sorted recordOrder (records slotSize n (drop slots s))
 
   -- what `sort` writes
-  pub sorts : {s₁ : List ℕ} → s₁ ≡ splice s slots (flat (sorted recordOrder (records slotSize n (region s slots (n * slotSize))))) → s₁ ≡ splice s slots (flat rs)
+  pub sorts : {s₁ : List ℕ} → s₁ ≡ splice s slots (flat (sorted recordOrder (records slotSize n (region s slots (n * slotSize)))))
+      → s₁ ≡ splice s slots (flat rs)
   sorts e = e ∙ ap (λ (l : List (List ℕ)). splice s slots (flat (sorted recordOrder l))) (slots-part n (n * slotSize) (drop slots s) (omega arith))
 
   count-is : length rs ≡ n
   count-is = length-sorted recordOrder (records slotSize n (drop slots s)) ∙ length-records slotSize n (drop slots s)
 
   wide-are : all (wide slotSize) rs ≡ true
-  wide-are = all-sorted recordOrder (wide slotSize) (records slotSize n (drop slots s)) (records-wide n (drop slots s) (rw (length-drop slots s) (omega arith)))
+  wide-are = all-sorted recordOrder (wide slotSize) (records slotSize n (drop slots s))
+      (records-wide n (drop slots s) (rw (length-drop slots s) (omega arith)))
 
   pub length-sorts : length (flat rs) ≡ n * slotSize
   length-sorts = length-joined slotSize rs wide-are ∙ ap (λ (k : ℕ). k * slotSize) count-is
@@ -69,7 +81,8 @@ module _ (s : List ℕ) (slots n : ℕ) (h : slots + n * slotSize ≤ length s) 
   sorted-keys = ap (map slotKey) sorted-slots
 
 -- THE LEVEL, over all of its region
-module _ (s s₁ s₂ : List ℕ) (base size n τ used : ℕ) (few : n ≤ size) (room : base + entryRoom * size ≤ length s) (short : shortPaths n (drop (slotsAt base size) s) ≡ true)
+module _ (s s₁ s₂ : List ℕ) (base size n τ used : ℕ) (few : n ≤ size) (room : base + entryRoom * size ≤ length s)
+    (short : shortPaths n (drop (slotsAt base size) s) ≡ true)
     (first : s₁ ≡ splice s (slotsAt base size) (flat (sorted recordOrder (records slotSize n (drop (slotsAt base size) s))))) where
   abbrev slots : ℕ
   slots = slotsAt base size
@@ -98,7 +111,8 @@ module _ (s s₁ s₂ : List ℕ) (base size n τ used : ℕ) (few : n ≤ size)
   bytes-are : trie-bytes ++ replicate (entryRoom * size - length trie-bytes) 0 ≡ levelBytes size τ n (drop slots s)
   unfolding levelBytes padded
   bytes-are =
-      let k : keysOf n (drop slots s₁) ≡ map slotKey (sorted recordOrder (records slotSize n (drop slots s))) = rw first (sorted-keys s slots n inside) in
+      let k : keysOf n (drop slots s₁) ≡ map slotKey (sorted recordOrder (records slotSize n (drop slots s))) = rw first
+      (sorted-keys s slots n inside) in
       ap (λ (ks : List Key). let b = encode (levelOf 2 τ ks) in b ++ replicate (entryRoom * size - length b) 0) k
 
   pub merged : Built s₁ base slots scratch n trie-bytes s₂ → used ≡ length trie-bytes
@@ -108,9 +122,11 @@ module _ (s s₁ s₂ : List ℕ) (base size n τ used : ℕ) (few : n ≤ size)
       let lz : length z ≡ entryRoom * size - length trie-bytes = length-replicate {A = ℕ} (entryRoom * size - length trie-bytes) 0 in
       let w = flat (sorted recordOrder (records slotSize n (drop slots s))) in
       let lw = length-sorts s slots n inside in
-      rw u (built-over s₁ s₂ base slots scratch n trie-bytes z b (omega (arith, trie-fits)) (omega arith) (omega (arith, trie-fits)) (omega (arith, trie-fits, same-long)))
+      rw u (built-over s₁ s₂ base slots scratch n trie-bytes z b
+      (omega (arith, trie-fits)) (omega arith) (omega (arith, trie-fits)) (omega (arith, trie-fits, same-long)))
       ∙ ap (λ (x : List ℕ). splice x base (trie-bytes ++ z)) first
-      ∙ splice-under s slots w base (trie-bytes ++ z) (omega arith) (omega (arith, length-append trie-bytes z, trie-fits)) (omega (arith, length-append trie-bytes z, trie-fits))
+      ∙ splice-under s slots w base (trie-bytes ++ z)
+      (omega arith) (omega (arith, length-append trie-bytes z, trie-fits)) (omega (arith, length-append trie-bytes z, trie-fits))
       ∙ ap (splice s base) bytes-are
 
 pub length-level : (s : List ℕ) (base size n τ : ℕ) → n ≤ size → base + entryRoom * size ≤ length s → shortPaths n (drop (slotsAt base size) s) ≡ true

@@ -4,7 +4,7 @@ use mathlib.Core.Path.{_≡_, refl, sym, ap, ap₂, subst, _∙_}
 use mathlib.Core.Bool.{true}
 use mathlib.Core.List.{List, [], _∷_, _++_}
 use native.Mathlib.Omega.{arith}
-use lib.ListN.{length, take, drop, replicate, length-append, length-replicate}
+use lib.ListN.{length, take, drop, replicate, length-append}
 use Rattle.buffer.specs.Splice.{splice}
 use Rattle.buffer.specs.Numbers.{bytesOf}
 use Rattle.buffer.proofs.Splice.{length-splice, take-before, drop-after}
@@ -12,7 +12,7 @@ use Rattle.buffer.proofs.Digits.{length-bytesOf}
 use Rattle.rows.specs.Entry.{Entry}
 use Rattle.rows.proofs.Sorted.{count-all}
 use Rattle.trie_theory.specs.Encode.{encode}
-use Rattle.book.specs.Front.{frontRoom, entryRoom, need}
+use Rattle.book.specs.Front.{frontRoom, heldAt, entryRoom, need}
 use Rattle.book.specs.Digits.{digit, rounds, small}
 use Rattle.book.specs.Book.{Book, Sound, front, held, put, formed}
 use Rattle.book.specs.Tries.{tries, levelTrie}
@@ -27,7 +27,7 @@ use Rattle.book.proofs.Additions.{not-all-full}
 use Rattle.book.proofs.Writes.{as-held, write-within, add-level}
 use Rattle.book.proofs.Good.{tries-good}
 use Rattle.store.proofs.Places.{region-within}
-use Rattle.store_overflow.specs.Overflow.{heldAt, Overflowed}
+use Rattle.store_overflow.specs.Overflow.{Overflowed}
 use Rattle.store_overflow.specs.Steps.{FirstEmpty, Filled}
 
 -- what level j and all below it become
@@ -42,9 +42,11 @@ module _ (b : Book) (sound : Sound b) (e : Entry) (f : formed e ≡ true) (j : �
   few-entries : length (entriesIn j (tries b)) + 1 ≤ b .M * 2 ^ j
   few-entries =
       let es = fromHighest (b .M) j (b .entries) in
-      let n : length (entriesIn j (tries b)) ≡ length es = sym (count-all (entriesIn j (tries b))) ∙ kept-count b sound j (λ _. true) ∙ count-all es in
+      let n : length (entriesIn j (tries b)) ≡ length es = sym (count-all (entriesIn j (tries b)))
+      ∙ kept-count b sound j (λ _. true) ∙ count-all es in
       let k : length (es ++ (e ∷ [])) ≤ b .M * 2 ^ j =
-      subst (λ (l : List Entry). length l ≤ b .M * 2 ^ j) (overflows (b .M) j (b .entries) e h empty others .into) (level-few (b .M) j (b .entries ++ (e ∷ []))) in
+      subst (λ (l : List Entry). length l ≤ b .M * 2 ^ j) (overflows (b .M) j (b .entries) e h empty others .into)
+      (level-few (b .M) j (b .entries ++ (e ∷ []))) in
       omega (arith, length-append es (e ∷ []))
 
   abbrev bytes : List ℕ
@@ -60,7 +62,8 @@ module _ (b : Book) (sound : Sound b) (e : Entry) (f : formed e ≡ true) (j : �
       let li = length-image b sound in
       let lent = holds .enough in
       let own : store ≡ splice store 0 (image b) = as-held holds (image-fits b sound) in
-      let first : splice store frontRoom bytes ≡ splice store 0 (splice (image b) frontRoom bytes) = write-within store (image b) store frontRoom bytes own (omega arith) (omega arith) in
+      let first : splice store frontRoom bytes ≡ splice store 0 (splice (image b) frontRoom bytes) =
+      write-within store (image b) store frontRoom bytes own (omega arith) (omega arith) in
       let ls : length (splice (image b) frontRoom bytes) ≡ length (image b) = length-splice (image b) frontRoom bytes (omega arith) in
       write-within store (splice (image b) frontRoom bytes) (splice store frontRoom bytes) heldAt H first (omega arith) (omega arith)
       ∙ ap (splice store 0) (add-level b e sound f j low h empty others (entriesIn j (tries b) ++ (e ∷ [])) (λ p. refl))
@@ -87,9 +90,11 @@ module _ (m l τ held j : ℕ) (e : Entry) (store : List ℕ) (d : FirstEmpty l 
             let q = quotient-is m held b em eh in
             let empty = subst (λ (n : ℕ). digit j n ≡ 0) q (d .empty low) in
             let others : (i : ℕ) → i < j → digit i (rounds (b .M) (b .entries)) ≡ 1 = λ i k. subst (λ (n : ℕ). digit i n ≡ 1) q (d .ones i k) in
-            let few : length (entriesIn j (tries b)) + 1 ≤ m * 2 ^ j = subst (λ (n : ℕ). length (entriesIn j (tries b)) + 1 ≤ n * 2 ^ j) (sym em) (few-entries b sound e f j (omega (arith, low, el)) h empty others) in
+            let few : length (entriesIn j (tries b)) + 1 ≤ m * 2 ^ j =
+            subst (λ (n : ℕ). length (entriesIn j (tries b)) + 1 ≤ n * 2 ^ j) (sym em) (few-entries b sound e f j (omega (arith, low, el)) h empty others) in
             let are : a .bytes ≡ bytesFor (b .M) (b .τ) j (entriesIn j (tries b) ++ (e ∷ [])) =
-            a .entries (front b) (tries b) (sym em) (sym el) (tries-good b sound) holds (fits-row e f) few ∙ ap₂ (λ (x y : ℕ). bytesFor x y j (entriesIn j (tries b) ++ (e ∷ []))) em et in
+            a .entries (front b) (tries b) (sym em) (sym el) (tries-good b sound) holds (fits-row e f) few
+            ∙ ap₂ (λ (x y : ℕ). bytesFor x y j (entriesIn j (tries b) ++ (e ∷ []))) em et in
             ap (λ (x : List ℕ). splice x heldAt (bytesOf 4 (Rattle.book.specs.Book.held b + 1))) (a .is ∙ ap (splice store frontRoom) are)
             ∙ book-put b sound e f j (omega (arith, low, el)) h empty others store holds (fits-book b em el are within);
       }
@@ -102,5 +107,6 @@ module _ (m l τ held j : ℕ) (e : Entry) (store : List ℕ) (d : FirstEmpty l 
         front = refl;
         beyond = refl;
         ours = λ b sound f holds em el et eh h room.
-            absurd (not-all-full b h room (λ i k. subst (λ (n : ℕ). digit i n ≡ 1) (quotient-is m held b em eh) (d .ones i (omega (arith, d .most, el)))));
+            absurd (not-all-full b h room (λ i k. subst (λ (n : ℕ). digit i n ≡ 1) (quotient-is m held b em eh)
+            (d .ones i (omega (arith, d .most, el)))));
       }

@@ -7,6 +7,7 @@ use lib.ListN.{length, take, drop}
 use Rattle.buffer.specs.Numbers.{bytesOf}
 use Rattle.buffer.specs.Splice.{splice}
 use Rattle.rows.specs.Entry.{Entry}
+pub use Rattle.book.specs.Front.{heldAt}
 use Rattle.book.specs.Front.{frontRoom, need}
 use Rattle.book.specs.Digits.{small}
 use Rattle.book.specs.Book.{Book, Sound, front, put, formed}
@@ -14,12 +15,8 @@ use Rattle.book.specs.Book as Book
 use Rattle.book.specs.Tries.{tries}
 use Rattle.book.specs.Image.{image, Holds}
 
--- where the held number stands
-abbrev pub heldAt : ℕ
-heldAt = 12
-
--- On any bytes the numbers at the front stay, and so does what is not the store's. A store of ours, of a book whose small trie lacks one entry of M, is
--- the store of the book with the entry put, but for the held number
+-- On any bytes the numbers at the front stay, and so does what is not the store's. A store of ours, of a book whose small trie lacks one entry
+-- of M, becomes the store of the book with the entry put, but for the held number
 pub record Overflowed (m l τ held : ℕ) (e : Entry) (store after : List ℕ) : Type 0 where
   pub size : length after ≡ length store
   pub front : take frontRoom after ≡ take frontRoom store

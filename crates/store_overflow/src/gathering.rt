@@ -9,8 +9,8 @@ ghost use Rattle.book.specs.Front.{need};
 ghost use Rattle.store.specs.Parts.{regionAt, regionSize};
 ghost use Rattle.store_overflow.specs.Steps.{FirstGathered};
 
-// Writes the slots of all keys of the first k tries, from `out` on, which lies behind their regions; at most `room`. Returns how many. A trie's place is
-// read before anything is written: the slots go where a store may keep another trie.
+// Writes the slots of all keys of the first k tries from `out` on, behind the regions of these tries; at most `room`. Returns how many. Each trie's
+// place is read before anything is written, since the slots stand where the store may have another trie.
 pub(crate) fn gather_first(
     s: &mut [u8],
     m: usize,

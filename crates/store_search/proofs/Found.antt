@@ -22,7 +22,8 @@ use Rattle.trie_read.specs.Shape.{part}
 use Rattle.trie_read.proofs.Stretch.{length-part}
 use Rattle.gather.specs.KeySlots.{hasSlot}
 use Rattle.gather.specs.Walks.{joined}
-use Rattle.gather.proofs.Putting.{all-both, joined-none}
+use Rattle.buffer.proofs.Lists.{tested-append}
+use Rattle.gather.proofs.Putting.{joined-none}
 use Rattle.search.specs.Steps.{keyRow}
 use Rattle.search.specs.Searches.{TrieFound, TrieSearched}
 use Rattle.book.specs.Front.{Front, need}
@@ -139,7 +140,7 @@ pub searched-next : {q : Query} {store : List ℕ} {m l k room from to : ℕ} {s
 searched-next {q} {store} {m} {l} {k} {room} {from} {to} {s} {s'} {s''} {r} {d} {r'} {d'} a p b h few =
     record {
       put = a .put ++ b .put;
-      fit = all-both hasSlot (a .put) (b .put) (a .fit) (b .fit);
+      fit = tested-append hasSlot (a .put) (b .put) (a .fit) (b .fit);
       rows-are = omega (arith, a .rows-are, b .rows-are, length-append (a .put) (b .put));
       fewRows = omega (arith, a .fewRows, b .fewRows);
       fewNodes = omega (arith, a .fewNodes, b .fewNodes);

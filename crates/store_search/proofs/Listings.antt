@@ -27,7 +27,7 @@ use Rattle.entries.specs.Query.{Query}
 use Rattle.gather.specs.KeySlots.{hasSlot}
 use Rattle.gather.specs.Walks.{joined}
 use Rattle.gather.proofs.Putting.{all-even, length-put}
-use Rattle.gather.proofs.Gathering.{all-take}
+use Rattle.buffer.proofs.Lists.{tested-take}
 use Rattle.search.specs.Steps.{keyRow}
 use Rattle.search.proofs.Finding.{length-row}
 use Rattle.book.specs.Tries.{Tries}
@@ -86,13 +86,13 @@ module _ {q : Query} {store : List ℕ} {m l room : ℕ} {answer s : List ℕ} {
   in-order = flat (sorted recordOrder (map keyRow taken))
 
   even : all (wide rowSize) (map keyRow taken) ≡ true
-  even = all-even keyRow rowSize length-row taken (all-take hasSlot room (a .put) (a .fit))
+  even = all-even keyRow rowSize length-row taken (tested-take hasSlot room (a .put) (a .fit))
 
   length-taken : length taken ≡ min n room
   length-taken = omega (arith, length-take room (a .put), a .rows-are)
 
   length-written : length written ≡ length taken * rowSize
-  length-written = length-put keyRow rowSize length-row taken (all-take hasSlot room (a .put) (a .fit))
+  length-written = length-put keyRow rowSize length-row taken (tested-take hasSlot room (a .put) (a .fit))
 
   length-order : length in-order ≡ length taken * rowSize
   length-order =

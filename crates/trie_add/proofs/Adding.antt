@@ -1,8 +1,7 @@
 -- What an addition makes of the bytes around it: a changed body, then the length in front of it; a changed node among its siblings.
 -- Assumes nothing.
 use mathlib.Core.Path.{_≡_, refl, sym, ap, _∙_}
-use mathlib.Core.Bool.{Bool, true, false, cond}
-use Prim.Native.Nat.{ℕ, zero, suc, _+_, _-_, _≤_}
+use Prim.Native.Nat.{ℕ, _+_, _-_, _≤_}
 use mathlib.Core.List.{List, [], _∷_, _++_, append-assoc, append-nil, map}
 use native.Mathlib.Omega.{arith}
 use lib.ListN.{length, length-append}
@@ -10,20 +9,18 @@ use Rattle.buffer.specs.Lists.{flat}
 use Rattle.buffer.specs.Splice.{splice, region}
 use Rattle.buffer.specs.Numbers.{bytesOf}
 use Rattle.buffer.proofs.Splice.{splice-from, splice-inside, region-add, length-region}
-use Rattle.buffer.proofs.Lists.{map-append}
+use Rattle.buffer.proofs.Lists.{map-append, flat-append}
 use Rattle.buffer.proofs.Digits.{length-bytesOf}
 use Rattle.trie_theory.specs.Forest.{Strings, Key, Forest, none, leaf, inner}
-use Rattle.trie_theory.specs.Strings.{at, goesOn, remains}
-use Rattle.trie_theory.specs.Dimensions.{Above, below}
-use Rattle.trie_theory.specs.SmallTrie.{meets, alone, split, outcome, added, two}
-use Rattle.trie_theory.specs.Encode.{Regular, encode, nodeBytes, suffixBytes}
+use Rattle.trie_theory.specs.Strings.{at}
+use Rattle.trie_theory.specs.Encode.{Regular, nodeBytes, suffixBytes}
 use Rattle.trie_theory.proofs.Encode.{halves}
 use Rattle.trie_read.specs.Heads.{front}
 use Rattle.trie_read.specs.Heads.{bodyOf}
 use Rattle.trie_read.specs.Places.{top}
 use Rattle.trie_read.proofs.Node.{length-front}
-use Rattle.trie_add.specs.Replaced.{Replaced, splitBytes}
-use Rattle.trie_add.specs.Added.{single, siblings, kindOf, grownBody}
+use Rattle.trie_add.specs.Replaced.{Replaced}
+use Rattle.trie_add.specs.Added.{kindOf, grownBody}
 use Rattle.trie_add.proofs.Splitting.{own-is}
 
 -- ---- stretches
@@ -101,11 +98,6 @@ body-grown s s₁ s₂ node body next used kind r st grown w e a h k fit c q =
     rw (own-is kind st grown w) (patched s s₁ s₂ node body next used kind (next - body) r st grown e m h k fit c (rw l q))
 
 -- ---- an addition at a leaf
-
-flat-append : (xs ys : List (List ℕ)) → flat (xs ++ ys) ≡ flat xs ++ flat ys
-unfolding flat
-flat-append [] ys = refl
-flat-append (x ∷ xs) ys = ap (λ (w : List ℕ). x ++ w) (flat-append xs ys) ∙ sym (append-assoc x (flat xs) (flat ys))
 
 -- a suffix more, last
 pub suffixes-more : (ts : List Key) (y : Key) → flat (map suffixBytes (ts ++ (y ∷ []))) ≡ flat (map suffixBytes ts) ++ suffixBytes y

@@ -4,14 +4,14 @@ use buffer::numbers::put32;
 use trie_read::lookup::agrees;
 use trie_read::place::Place;
 use trie_read::place::find;
-use trie_read::sizes::FRONT_SIZE;
+use trie_read::sizes::HEAD_SIZE;
 use trie_write::insert::insert_leaf;
 use trie_write::insert::insert_suffix;
 ghost use mathlib.Core.Path.{_≡_};
 ghost use Prim.Native.Nat.{ℕ, _+_, _≤_, _<_};
 ghost use lib.ListN.{length};
 ghost use Rattle.buffer.specs.Sizes.{referenceSize};
-ghost use Rattle.trie_read.specs.Sizes.{frontSize};
+ghost use Rattle.trie_read.specs.Sizes.{headSize};
 ghost use Rattle.trie_add.specs.Sizes.{growthSize};
 ghost use Rattle.trie_read.specs.Shape.{keyOf};
 ghost use Rattle.trie_add.specs.Added.{Added, AddedAt, Grown};
@@ -27,7 +27,7 @@ fn add_suffix(
     path: &[u8],
     reference: &[u8],
 ) -> usize
-    requires { ⌜ (node + frontSize ≤ body) × (body ≤ next) × (next ≤ used) × (used + growthSize + length (now value) + length (now path) ≤ length (now s)) × (length (now s) < 4294967296) ⌝ }
+    requires { ⌜ (node + headSize ≤ body) × (body ≤ next) × (next ≤ used) × (used + growthSize + length (now value) + length (now path) ≤ length (now s)) × (length (now s) < 4294967296) ⌝ }
     requires { ⌜ (length (now value) < 256) × (length (now path) < 256) × (length (now reference) ≡ referenceSize) ⌝ }
     ensures { λ r. ⌜ ((depth : ℕ) → Grown (now (s .entry)) node 0 body next used depth (keyOf (now (value .entry)) (now (path .entry)) (now (reference .entry))) (now (s .exit)) r) ⌝ }
 {
@@ -49,7 +49,7 @@ fn extend_body(
     path: &[u8],
     reference: &[u8],
 ) -> usize
-    requires { ⌜ (node + frontSize ≤ body) × (body ≤ next) × (next ≤ used) × (used + growthSize + length (now value) + length (now path) ≤ length (now s)) × (length (now s) < 4294967296) ⌝ }
+    requires { ⌜ (node + headSize ≤ body) × (body ≤ next) × (next ≤ used) × (used + growthSize + length (now value) + length (now path) ≤ length (now s)) × (length (now s) < 4294967296) ⌝ }
     requires { ⌜ (length (now value) < 256) × (length (now path) < 256) × (length (now reference) ≡ referenceSize) ⌝ }
     ensures { λ r. ⌜ Grown (now (s .entry)) node kind body next used depth (keyOf (now (value .entry)) (now (path .entry)) (now (reference .entry))) (now (s .exit)) r ⌝ }
 {
@@ -79,11 +79,11 @@ fn visit_node(
     path: &[u8],
     reference: &[u8],
 ) -> usize
-    requires { ⌜ (node + frontSize ≤ start) × (start ≤ body) × (body ≤ next) × (next ≤ used) × (used + growthSize + length (now value) + length (now path) ≤ length (now s)) × (length (now s) < 4294967296) ⌝ }
-    requires { ⌜ (kind < 256) × (start < node + frontSize + 256) × (body < start + 256) × (length (now value) < 256) × (length (now path) < 256) × (length (now reference) ≡ referenceSize) ⌝ }
+    requires { ⌜ (node + headSize ≤ start) × (start ≤ body) × (body ≤ next) × (next ≤ used) × (used + growthSize + length (now value) + length (now path) ≤ length (now s)) × (length (now s) < 4294967296) ⌝ }
+    requires { ⌜ (kind < 256) × (start < node + headSize + 256) × (body < start + 256) × (length (now value) < 256) × (length (now path) < 256) × (length (now reference) ≡ referenceSize) ⌝ }
     ensures { λ r. ⌜ AddedAt (now (s .entry)) node kind start body next used above depth (keyOf (now (value .entry)) (now (path .entry)) (now (reference .entry))) (now (s .exit)) r ⌝ }
 {
-    let from = node + FRONT_SIZE;
+    let from = node + HEAD_SIZE;
     if agrees(&s[from..start], &s[start..body], value, path) {
         let a = start - from;
         let b = body - start;

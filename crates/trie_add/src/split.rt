@@ -1,5 +1,5 @@
 // A node whose strings differ from the key gets a new parent, and the parent a new leaf.
-use trie_read::sizes::FRONT_SIZE;
+use trie_read::sizes::HEAD_SIZE;
 use trie_read::sizes::LEAF_SIZE;
 use trie_read::strings::branch_byte;
 use trie_read::strings::common_length;
@@ -8,7 +8,7 @@ use trie_write::insert::replace_front;
 use trie_write::split::split_kind;
 use trie_write::write::put_front;
 ghost use mathlib.Core.Path.{_≡_};
-ghost use Prim.Native.Nat.{_+_, _-_, _^_, _≤_, _<_};
+ghost use Prim.Native.Nat.{_+_, _-_, _≤_, _<_};
 ghost use mathlib.Core.Bool.{cond};
 ghost use mathlib.Core.List.{[], _∷_, _++_};
 ghost use lib.ListN.{length, take, drop};
@@ -16,14 +16,14 @@ ghost use lib.Dec.{ltb};
 ghost use Rattle.buffer.specs.Splice.{splice, region};
 ghost use Rattle.trie_theory.specs.Dimensions.{branching};
 ghost use Rattle.buffer.specs.Sizes.{referenceSize};
-ghost use Rattle.trie_read.specs.Sizes.{frontSize};
+ghost use Rattle.trie_read.specs.Sizes.{headSize};
 ghost use Rattle.trie_add.specs.Sizes.{growthSize, frontsSize};
 ghost use Rattle.trie_read.specs.Shape.{aboveOf, keyOf, part};
 ghost use Rattle.trie_read.specs.Heads.{front};
 ghost use Rattle.trie_add.specs.Replaced.{Replaced, CutFor, splitBytes};
 
 // Two fronts take no more: their strings are those of one node.
-const FRONTS: usize = 2 * FRONT_SIZE + 2 * 255;
+const FRONTS: usize = 2 * HEAD_SIZE + 2 * 255;
 
 // Writes the front of the new parent, which takes `a` value and `b` path bytes of the node, and that of the node with the others.
 fn put_fronts(
@@ -41,7 +41,7 @@ fn put_fronts(
     ensures { λ _. ⌜ now (new .exit) ≡ splice (now (new .entry)) 0 (front up (take a (now (value .entry)) ∷ take b (now (path .entry)) ∷ []) size ++ front kind (drop a (now (value .entry)) ∷ drop b (now (path .entry)) ∷ []) own) ⌝ }
 {
     put_front(new, 0, up, &value[0..a], &path[0..b], size);
-    put_front(new, FRONT_SIZE + a + b, kind, &value[a..], &path[b..], own);
+    put_front(new, HEAD_SIZE + a + b, kind, &value[a..], &path[b..], own);
 }
 
 // How a node is cut: the new parent takes so many bytes of its value and path string and has this kind; does the new leaf stand before it?
@@ -92,12 +92,12 @@ fn put_parent(
     kind: u8,
     own: u32,
 )
-    requires { ⌜ (at + frontSize ≤ start) × (start ≤ body) × (body ≤ used) × (used + frontSize ≤ length (now s)) × (start < at + frontSize + 256) × (body < start + 256) ⌝ }
-    requires { ⌜ (at + frontSize + c .value ≤ start) × (start + c .path ≤ body) × (c .kind ≤ 2) ⌝ }
-    ensures { λ _. ⌜ now (s .exit) ≡ splice (now (s .entry)) at ((front (c .kind) (take (c .value) (part (at + frontSize) start (now (s .entry))) ∷ take (c .path) (part start body (now (s .entry))) ∷ []) size ++ front kind (drop (c .value) (part (at + frontSize) start (now (s .entry))) ∷ drop (c .path) (part start body (now (s .entry))) ∷ []) own) ++ region (now (s .entry)) body (used - body)) ⌝ }
+    requires { ⌜ (at + headSize ≤ start) × (start ≤ body) × (body ≤ used) × (used + headSize ≤ length (now s)) × (start < at + headSize + 256) × (body < start + 256) ⌝ }
+    requires { ⌜ (at + headSize + c .value ≤ start) × (start + c .path ≤ body) × (c .kind ≤ 2) ⌝ }
+    ensures { λ _. ⌜ now (s .exit) ≡ splice (now (s .entry)) at ((front (c .kind) (take (c .value) (part (at + headSize) start (now (s .entry))) ∷ take (c .path) (part start body (now (s .entry))) ∷ []) size ++ front kind (drop (c .value) (part (at + headSize) start (now (s .entry))) ∷ drop (c .path) (part start body (now (s .entry))) ∷ []) own) ++ region (now (s .entry)) body (used - body)) ⌝ }
 {
-    let from = at + FRONT_SIZE;
-    let fronts = body - at + FRONT_SIZE;
+    let from = at + HEAD_SIZE;
+    let fronts = body - at + HEAD_SIZE;
     let up = c.kind as u8;
     let mut new = [0u8; FRONTS];
     put_fronts(
@@ -129,19 +129,19 @@ pub fn split(
     path: &[u8],
     reference: &[u8],
 ) -> usize
-    requires { ⌜ (at + frontSize ≤ start) × (start ≤ body) × (body ≤ next) × (next ≤ used) × (used + growthSize + length (now value) + length (now path) ≤ length (now s)) × (length (now s) < 4294967296) ⌝ }
-    requires { ⌜ (kind < 256) × (start < at + frontSize + 256) × (body < start + 256) × (length (now value) < 256) × (length (now path) < 256) × (length (now reference) ≡ referenceSize) ⌝ }
+    requires { ⌜ (at + headSize ≤ start) × (start ≤ body) × (body ≤ next) × (next ≤ used) × (used + growthSize + length (now value) + length (now path) ≤ length (now s)) × (length (now s) < 4294967296) ⌝ }
+    requires { ⌜ (kind < 256) × (start < at + headSize + 256) × (body < start + 256) × (length (now value) < 256) × (length (now path) < 256) × (length (now reference) ≡ referenceSize) ⌝ }
     ensures { λ r. ⌜ r ≤ growthSize + length (now (value .entry)) + length (now (path .entry)) ⌝ }
-    ensures { λ r. ⌜ Replaced (now (s .entry)) at next used (splitBytes (aboveOf above) kind (part (at + frontSize) start (now (s .entry)) ∷ part start body (now (s .entry)) ∷ []) (region (now (s .entry)) body (next - body)) (keyOf (now (value .entry)) (now (path .entry)) (now (reference .entry)))) (now (s .exit)) r ⌝ }
+    ensures { λ r. ⌜ Replaced (now (s .entry)) at next used (splitBytes (aboveOf above) kind (part (at + headSize) start (now (s .entry)) ∷ part start body (now (s .entry)) ∷ []) (region (now (s .entry)) body (next - body)) (keyOf (now (value .entry)) (now (path .entry)) (now (reference .entry)))) (now (s .exit)) r ⌝ }
 {
-    let from = at + FRONT_SIZE;
+    let from = at + HEAD_SIZE;
     let c = cut_for(above, &s[from..start], &s[start..body], value, path);
     let a = c.value;
     let b = c.path;
     let common = a + b;
     let n = LEAF_SIZE + value.len() + path.len() - common;
     let size = next + n - (at + common);
-    let place = choose(c.first, from + common, next + FRONT_SIZE);
+    let place = choose(c.first, from + common, next + HEAD_SIZE);
     put_parent(
         s,
         at,
@@ -156,10 +156,10 @@ pub fn split(
     insert_leaf(
         s,
         place,
-        used + FRONT_SIZE,
+        used + HEAD_SIZE,
         &value[a..],
         &path[b..],
         reference,
     );
-    n + FRONT_SIZE
+    n + HEAD_SIZE
 }

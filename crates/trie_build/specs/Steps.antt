@@ -13,6 +13,7 @@ use Rattle.trie_theory.specs.Strings.{at}
 use Rattle.trie_theory.specs.Position.{shared}
 use Rattle.trie_theory.specs.Level.{trie}
 use Rattle.trie_theory.specs.Encode.{encode}
+use Rattle.trie_read.specs.Sizes.{headSize}
 use Rattle.trie_read.specs.Shape.{aboveOf}
 use Rattle.entries.specs.Slots.{slotSize}
 use Rattle.trie_sets.specs.Positions.{slotByte, Split}
@@ -44,7 +45,7 @@ pub record Opened (s : List ℕ) (out slots n τ above vabove pabove : ℕ) (s�
   pub split : Split τ above (keysOf n (drop slots s)) kind value path
   pub value-most : value ≤ valueSize
   pub path-most : path ≤ pathLimit + 1
-  pub is : let p = shared (keysOf n (drop slots s)) in s′ ≡ splice s (out + 7) (drop vabove (at 0 p) ++ drop pabove (at 1 p))
+  pub is : let p = shared (keysOf n (drop slots s)) in s′ ≡ splice s (out + headSize) (drop vabove (at 0 p) ++ drop pabove (at 1 p))
 
 -- what the builder asks for: a set of n slots below a node of a kind that knows so many bytes, room for its trie before the slots, and
 -- a scratch stretch behind them

@@ -4,6 +4,7 @@ use crate::nodes::put_strings;
 use crate::nodes::put_suffixes;
 use entries::SLOT_SIZE;
 use rows::sizes::PATH_AT;
+use trie_read::sizes::HEAD_SIZE;
 use trie_sets::partition::partition;
 use trie_sets::positions::Shape;
 use trie_sets::positions::split;
@@ -65,7 +66,7 @@ fn open_node(
     let own = split(&s[slots..end], n, tau, above, vabove, pabove);
     let value = own.value;
     let path = own.path;
-    put_strings(s, out + 7, slots, vabove, value, pabove, path);
+    put_strings(s, out + HEAD_SIZE, slots, vabove, value, pabove, path);
     own
 }
 
@@ -89,7 +90,7 @@ fn build(
     let kind = own.kind;
     let value = own.value;
     let path = own.path;
-    let body = out + 7 + (value - vabove) + (path - pabove);
+    let body = out + HEAD_SIZE + (value - vabove) + (path - pabove);
     if kind == 0 {
         let stop = put_suffixes(s, body, slots, n, value, path);
         put_head(s, out, 0, value - vabove, path - pabove, stop - body);

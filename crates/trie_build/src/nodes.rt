@@ -7,25 +7,23 @@ use rows::sizes::PATH_AT;
 use rows::sizes::REFERENCE_AT;
 use rows::sizes::REFERENCE_SIZE;
 use rows::sizes::VALUE_SIZE;
-use trie_sets::positions::wide;
+use trie_read::head::wide;
+use trie_read::sizes::SUFFIX_SIZE;
 ghost use mathlib.Core.Path.{_≡_};
-ghost use mathlib.Core.Bool.{true};
 ghost use Prim.Native.Nat.{ℕ, _+_, _-_, _*_, _^_, _≤_, _<_};
-ghost use mathlib.Core.List.{_∷_, _++_, map};
-ghost use lib.ListN.{length, getD};
+ghost use mathlib.Core.List.{_++_};
+ghost use lib.ListN.{length};
 ghost use Rattle.buffer.specs.Splice.{splice, region};
-ghost use Rattle.buffer.specs.Numbers.{bytesOf};
-ghost use Rattle.buffer.specs.Lists.{flat};
-ghost use Rattle.matcher.specs.Bytes.{pathLimit};
-ghost use Rattle.rows.specs.Sizes.{valueSize, lengthAt, pathAt};
+ghost use Rattle.rows.specs.Sizes.{valueSize, pathAt};
 ghost use Rattle.entries.specs.Slots.{slotSize};
 ghost use Rattle.trie_theory.specs.Encode.{suffixBytes};
+ghost use Rattle.trie_read.specs.Sizes.{headSize};
 ghost use Rattle.trie_sets.specs.Partition.{slotsAt};
 ghost use Rattle.trie_build.specs.Nodes.{headBytes, rest, restsBytes, Behind};
 
 // The bytes of a node before its strings.
 pub(crate) fn put_head(s: &mut [u8], at: usize, kind: usize, value: usize, path: usize, size: usize)
-    requires { ⌜ (at + 7 ≤ length (now s)) × (kind < 256) × (value < 256) × (path < 256) × (size < 2 ^ 32) ⌝ }
+    requires { ⌜ (at + headSize ≤ length (now s)) × (kind < 256) × (value < 256) × (path < 256) × (size < 2 ^ 32) ⌝ }
     ensures { λ _. ⌜ now (s .exit) ≡ splice (now (s .entry)) at (headBytes kind value path size) ⌝ }
 {
     s[at] = kind as u8;
@@ -62,9 +60,9 @@ fn put_rest(s: &mut [u8], at: usize, slot: usize, value: usize, path: usize) -> 
     s[at] = left as u8;
     s[at + 1] = more as u8;
     move_within(s, slot + REFERENCE_AT, at + 2, REFERENCE_SIZE);
-    move_within(s, slot + value, at + 22, left);
-    move_within(s, slot + PATH_AT + path, at + 22 + left, more);
-    at + 22 + left + more
+    move_within(s, slot + value, at + SUFFIX_SIZE, left);
+    move_within(s, slot + PATH_AT + path, at + SUFFIX_SIZE + left, more);
+    at + SUFFIX_SIZE + left + more
 }
 
 // The suffixes of a leaf, in the sequence of their slots. Returns where they end.

@@ -1,9 +1,8 @@
 -- Looking for a key among suffixes, one after the other. Assumes nothing.
 use mathlib.Core.Path.{_≡_, refl, sym, ap, _∙_}
-use mathlib.Core.Bool.{Bool, true, false, _&&_, _||_}
-use Prim.Native.Nat.{ℕ, _+_, _≤_}
-use mathlib.Core.List.{List, [], _∷_, _++_}
-use native.Mathlib.Omega.{arith}
+use mathlib.Core.Bool.{true, false, _||_}
+use Prim.Native.Nat.{ℕ}
+use mathlib.Core.List.{List, [], _∷_}
 use lib.ListN.{length}
 use lib.Dec.{eqb}
 use Rattle.trie_theory.specs.Forest.{Strings, Key}
@@ -15,7 +14,7 @@ use Rattle.trie_read.specs.Suffixes.{suffixesBytes, tailOf}
 use Rattle.trie_read.specs.declared.suffixes.Tail.{Tail}
 use Rattle.trie_read.specs.declared.suffixes.Tail.the-variants.{End, Bad, At}
 use Rattle.trie_read.proofs.Node.{two}
-use Rattle.trie_read.proofs.Suffix.{SuffixView, Seen, tail-end, tail-good, tail-at}
+use Rattle.trie_read.proofs.Suffix.{Seen, tail-end, tail-good, tail-at}
 
 module _ (v p r v′ p′ r′ : List ℕ) where
   pub same-all : same eqb v v′ ≡ true → same eqb p p′ ≡ true → sameKey (keyOf v p r) (keyOf v′ p′ r′) ≡ same eqb r r′
@@ -53,7 +52,7 @@ unfolding among any
 among-none x = refl
 
 -- the key that the places show
-seen-key : {b : List ℕ} {ts : List Key} {path next : ℕ} (v : Seen b ts path next) → keyOf (part 22 path b) (part path next b) (part 2 22 b) ≡ v .t
+pub seen-key : {b : List ℕ} {ts : List Key} {path next : ℕ} (v : Seen b ts path next) → keyOf (part 22 path b) (part path next b) (part 2 22 b) ≡ v .t
 seen-key v = rw (v .places .value-is, v .places .path-is, v .places .reference-is) (sym (two-strings (v .t) (v .own .0)))
 
 module _ {x : Key} {b : List ℕ} {ts : List Key} {r : Tail} (l : Among x b ts)

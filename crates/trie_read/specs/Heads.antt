@@ -8,7 +8,7 @@ use Rattle.trie_theory.specs.Forest.{Strings, Forest, none, leaf, inner}
 use Rattle.buffer.specs.Lists.{flat}
 use Rattle.trie_theory.specs.Strings.{at}
 use Rattle.trie_theory.specs.Encode.{encode, suffixBytes}
-use Rattle.trie_read.specs.Sizes.{frontSize}
+use Rattle.trie_read.specs.Sizes.{headSize}
 use Rattle.trie_read.specs.declared.head.Head.{Head}
 use Rattle.trie_read.specs.declared.head.Head.the-variants.{End, Bad, Node}
 
@@ -19,7 +19,7 @@ front kind s n = kind ∷ length (at 0 s) ∷ length (at 1 s) ∷ (bytesOf 4 n +
 -- the places of a node of a kind with the strings s and a body
 abbrev pub nodeHead : ℕ → Strings → List ℕ → Head
 nodeHead kind s body =
-    Node kind (frontSize + length (at 0 s)) (frontSize + length (at 0 s) + length (at 1 s)) (frontSize + length (at 0 s) + length (at 1 s) + length body)
+    Node kind (headSize + length (at 0 s)) (headSize + length (at 0 s) + length (at 1 s)) (headSize + length (at 0 s) + length (at 1 s) + length body)
 
 -- the body of the first node
 unfoldable pub bodyOf : Forest → List ℕ
@@ -37,4 +37,4 @@ headOf (inner d s kids more) = nodeHead (suc d) s (bodyOf (inner d s kids more))
 abbrev pub Inside : Head → ℕ → Type 0
 Inside End n = n ≡ 0
 Inside Bad n = Unit {0}
-Inside (Node kind path body next) n = (frontSize ≤ path) × (path ≤ body) × (body ≤ next) × (next ≤ n) × (kind < 256) × (path < frontSize + 256) × (body < path + 256)
+Inside (Node kind path body next) n = (headSize ≤ path) × (path ≤ body) × (body ≤ next) × (next ≤ n) × (kind < 256) × (path < headSize + 256) × (body < path + 256)

@@ -9,7 +9,7 @@ use Rattle.trie_theory.specs.SmallTrie.{meets, alone, added}
 use Rattle.trie_theory.specs.Sound.{Ascending}
 use Rattle.trie_theory.specs.Size.{height}
 use Rattle.trie_theory.specs.Encode.{Regular, encode}
-use Rattle.trie_read.specs.Sizes.{frontSize}
+use Rattle.trie_read.specs.Sizes.{headSize}
 use Rattle.trie_read.specs.Shape.{aboveOf}
 use Rattle.trie_read.specs.Heads.{headOf}
 use Rattle.trie_read.specs.declared.head.Head.the-variants as Head
@@ -46,6 +46,6 @@ Found t above k f Bad = ⊥
 
 -- the places lie in n bytes, in their sequence, and kind and lengths are bytes
 abbrev pub Fits : Place → ℕ → Type 0
-Fits (Node at kind path body next) n = (at + frontSize ≤ path) × (path ≤ body) × (body ≤ next) × (next ≤ n) × (kind < 256) × (path < at + frontSize + 256) × (body < path + 256)
+Fits (Node at kind path body next) n = (at + headSize ≤ path) × (path ≤ body) × (body ≤ next) × (next ≤ n) × (kind < 256) × (path < at + headSize + 256) × (body < path + 256)
 Fits (Gap at) n = at ≤ n
 Fits Bad n = Unit {0}

@@ -3,8 +3,8 @@ use Prim.Native.Nat.{ℕ, _+_}
 use Rattle.buffer.specs.Sizes.{referenceSize}
 
 -- a node before its strings: kind, two lengths, and the length of its body in 4 bytes
-abbrev pub frontSize : ℕ
-frontSize = 1 + 2 + 4
+abbrev pub headSize : ℕ
+headSize = 1 + 2 + 4
 
 -- a suffix before its strings: two lengths and a reference
 abbrev pub suffixSize : ℕ
@@ -12,4 +12,4 @@ suffixSize = 2 + referenceSize
 
 -- a new leaf beside its strings, which are those of its only key: the suffix has none left
 abbrev pub leafSize : ℕ
-leafSize = frontSize + suffixSize
+leafSize = headSize + suffixSize

@@ -1,13 +1,13 @@
 // Reading the head of the first node of some bytes: where its strings and its body stand, and where its next sibling begins.
 ghost use mathlib.Core.Path.{_≡_};
-ghost use Prim.Native.Nat.{_≤_, _<_};
+ghost use Prim.Native.Nat.{_<_};
 ghost use lib.ListN.{length};
 ghost use Rattle.trie_theory.specs.Forest.{Forest};
 ghost use Rattle.trie_theory.specs.Encode.{Regular, encode};
 ghost use Rattle.trie_read.specs.Heads.{headOf, Inside};
-use crate::sizes::FRONT_SIZE;
+use crate::sizes::HEAD_SIZE;
 
-// `End`: no bytes. `Bad`: no node begins here. `Node`: its value string is t[FRONT_SIZE..path], its path string t[path..body], its body
+// `End`: no bytes. `Bad`: no node begins here. `Node`: its value string is t[HEAD_SIZE..path], its path string t[path..body], its body
 // t[body..next], and its later siblings are t[next..].
 pub enum Head {
     End,
@@ -26,7 +26,7 @@ pub fn wide(b: u8) -> usize
     b as usize
 }
 
-fn wide32(x: u32) -> usize
+pub fn wide32(x: u32) -> usize
     ensures { λ r. ⌜ (r ≡ x) × (r < 4294967296) ⌝ }
 {
     x as usize
@@ -39,11 +39,11 @@ pub fn read_head(t: &[u8]) -> Head
     if t.len() == 0 {
         return Head::End;
     }
-    if t.len() < FRONT_SIZE {
+    if t.len() < HEAD_SIZE {
         return Head::Bad;
     }
     let kind = wide(t[0]);
-    let path = FRONT_SIZE + wide(t[1]);
+    let path = HEAD_SIZE + wide(t[1]);
     let body = path + wide(t[2]);
     let next = body + wide32(buffer::numbers::get32(t, 3));
     if next <= t.len() {

@@ -2,7 +2,7 @@
 // the later siblings, and what is left of the trie is shorter.
 use crate::head::Head;
 use crate::head::read_head;
-use crate::sizes::FRONT_SIZE;
+use crate::sizes::HEAD_SIZE;
 use crate::strings::begins;
 use crate::strings::branch_byte;
 use crate::suffixes::has_suffix;
@@ -52,11 +52,11 @@ pub fn contains(tries: &[u8], value: &[u8], path: &[u8], reference: &[u8]) -> bo
                 body,
                 next,
             } => {
-                if same_branch(above, &t[FRONT_SIZE..at], &t[at..body], v, p) {
-                    if !agrees(&t[FRONT_SIZE..at], &t[at..body], v, p) {
+                if same_branch(above, &t[HEAD_SIZE..at], &t[at..body], v, p) {
+                    if !agrees(&t[HEAD_SIZE..at], &t[at..body], v, p) {
                         return false;
                     }
-                    let a = at - FRONT_SIZE;
+                    let a = at - HEAD_SIZE;
                     let b = body - at;
                     v = &v[a..];
                     p = &p[b..];

@@ -1,7 +1,7 @@
 // Where a key belongs among tries side by side: at the node that has its branching byte, or in the gap where a new leaf goes.
 use crate::head::Head;
 use crate::head::read_head;
-use crate::sizes::FRONT_SIZE;
+use crate::sizes::HEAD_SIZE;
 use crate::strings::branch_byte;
 ghost use mathlib.Core.Path.{_≡_};
 ghost use mathlib.Core.List.{[], _∷_};
@@ -42,7 +42,7 @@ pub fn find(tries: &[u8], above: usize, value: &[u8], path: &[u8]) -> Place
                 body,
                 next,
             } => {
-                let own = branch_byte(above, &t[FRONT_SIZE..start], &t[start..body]);
+                let own = branch_byte(above, &t[HEAD_SIZE..start], &t[start..body]);
                 if own == byte {
                     return Place::Node {
                         at,

@@ -4,6 +4,7 @@ use matcher::bytes::PATH_LIMIT;
 use rows::sizes::LENGTH_AT;
 use rows::sizes::PATH_AT;
 use rows::sizes::VALUE_SIZE;
+pub use trie_read::head::wide;
 ghost use mathlib.Core.Path.{_≡_};
 ghost use mathlib.Core.Bool.{true};
 ghost use Prim.Native.Nat.{_+_, _*_, _≤_, _<_};
@@ -15,12 +16,6 @@ ghost use Rattle.trie_theory.specs.Position.{shared};
 ghost use Rattle.trie_read.specs.Shape.{aboveOf};
 ghost use Rattle.trie_sets.specs.Sets.{keysOf, shortPaths};
 ghost use Rattle.trie_sets.specs.Positions.{Alike, Least, passes, kindOf, Split};
-
-pub fn wide(b: u8) -> usize
-    ensures { λ r. ⌜ (r ≡ b) × (r < 256) ⌝ }
-{
-    b as usize
-}
 
 // Is no path in the slots longer than a path may be?
 pub fn paths_are_short(slots: &[u8], n: usize) -> bool

@@ -4,6 +4,7 @@ use mathlib.Core.Path.{_≡_, refl, sym, ap, ap₂, _∙_}
 use mathlib.Core.List.{List, [], _∷_, _++_, append-assoc, append-nil}
 use native.Mathlib.Omega.{arith}
 use lib.ListN.{length, drop, length-append}
+use lib.Seq.{drop-append-seam}
 use Rattle.trie_theory.specs.Forest.{Strings, Key, join}
 use Rattle.buffer.specs.Lists.{All, nil, cons}
 use Rattle.trie_theory.specs.Strings.{commons, strip, at, first, total}
@@ -36,16 +37,12 @@ join-strip [] s h = refl
 join-strip (p ∷ ps) [] h = absurd h
 join-strip (p ∷ ps) (s ∷ ss) h = ap₂ _∷_ (drop-prefix p s (h .0)) (join-strip ps ss (h .1))
 
-drop-append : (p s : List ℕ) → drop (length p) (p ++ s) ≡ s
-drop-append [] s = refl
-drop-append (a ∷ p) s = drop-append p s
-
 -- and what is left behind bytes is what was joined to them
 pub strip-join : (p s : Strings) → length p ≡ length s → strip p (join p s) ≡ s
 unfolding join strip
 strip-join [] s e = refl
 strip-join (p ∷ ps) [] e = absurd (omega arith)
-strip-join (p ∷ ps) (s ∷ ss) e = ap₂ _∷_ (drop-append p s) (strip-join ps ss (omega arith))
+strip-join (p ∷ ps) (s ∷ ss) e = ap₂ _∷_ (drop-append-seam p s) (strip-join ps ss (omega arith))
 
 -- numbers of strings
 pub length-strip : (p s : Strings) → length (strip p s) ≡ length s

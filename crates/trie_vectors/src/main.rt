@@ -14,7 +14,7 @@ use rows::sizes::REFERENCE_SIZE;
 use rows::sizes::VALUE_SIZE;
 use trie_read::head::Head;
 use trie_read::head::read_head;
-use trie_read::sizes::FRONT_SIZE;
+use trie_read::sizes::HEAD_SIZE;
 use trie_read::sizes::LEAF_SIZE;
 use trie_read::sizes::SUFFIX_SIZE;
 use trie_read::suffixes::Tail;
@@ -22,16 +22,15 @@ use trie_read::suffixes::read_suffix;
 ghost use mathlib.Core.Path.{_≡_};
 ghost use Prim.Native.Nat.{_+_, _≤_, _<_};
 ghost use lib.ListN.{length};
-ghost use Rattle.rows.specs.Sizes.{valueSize, pathLimit, referenceSize};
+ghost use Rattle.rows.specs.Sizes.{referenceSize};
 ghost use Rattle.logline.specs.Sizes.{referenceDigits};
-ghost use Rattle.trie_read.specs.Sizes.{suffixSize};
 
 const INPUT_SIZE: usize = 262144;
 
 const REGION_SIZE: usize = 65536;
 
 // The most that an addition adds beside the key's bytes: a leaf and a parent.
-const GROWTH: usize = LEAF_SIZE + FRONT_SIZE;
+const GROWTH: usize = LEAF_SIZE + HEAD_SIZE;
 
 fn print_text(text: &[u8]) {
     io::write_all(libc::STDOUT_FILENO, text);
@@ -160,7 +159,7 @@ fn draw(t: &[u8], indent: usize)
             body,
             next,
         } => {
-            print_node(kind, &t[FRONT_SIZE..path], &t[path..body], indent);
+            print_node(kind, &t[HEAD_SIZE..path], &t[path..body], indent);
             if kind == 0 {
                 draw_suffixes(&t[body..next], indent + 1);
             } else {

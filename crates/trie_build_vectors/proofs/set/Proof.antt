@@ -7,10 +7,10 @@ use Rattle.trie_build_vectors.proofs.set.Statement.{statement}
 use Rattle.trie_build_vectors.proofs.set.Tie as tie
 
 abbrev Inv-loop : tie.InvT-loop
-Inv-loop s₀ input from tau n rows k₀ s k = (k ≤ n) × (length s ≡ length s₀)
+Inv-loop s₀ input from tau above n rows k₀ s k = (k ≤ n) × (length s ≡ length s₀)
 
 abbrev μ-loop : tie.MeasureT-loop
-μ-loop s₀ input from tau n rows k₀ s k = n - k
+μ-loop s₀ input from tau above n rows k₀ s k = n - k
 
 pub set-spec : {M : Type 1} → statement M
 set-spec =
@@ -25,6 +25,10 @@ set-spec =
     (λ c. search needs)
     (λ c. search needs)
     (λ c κs. search needs)
+    (λ c. search needs)
+    (λ c. search needs)
+    (λ c κs. search needs)
+    (λ c. search needs)
     (λ c. search needs)
     (λ c. search needs)
     (λ c. search needs)

@@ -5,12 +5,12 @@ use lib.ListN.{length}
 use borrow.Author.Needs.{needs}
 use borrow.Fn.Kinds.{In}
 use borrow.Fn.PlainCycle.{Measures, is, falls, and}
-use Rattle.matcher.proofs.Cuts.{no-labels}
+use Rattle.glob.proofs.Cuts.{no-labels}
 use Rattle.matcher.proofs.form.are_pattern_labels.Reads as are-pattern-labels
 use Rattle.matcher.proofs.form.are_pattern_labels.Kinds as are-pattern-labels-kinds
 use Rattle.matcher.proofs.form.+are_pattern_labels.Lts-are_pattern_labels as are-pattern-labels-lts
 use Rattle.matcher.proofs.form.is_pattern_label.Reads as is-pattern-label-reads
-use Rattle.matcher.proofs.split.label_end.Reads as label-end-reads
+use Rattle.glob.proofs.split.label_end.Reads as label-end-reads
 use Rattle.matcher.proofs.form.+are_pattern_labels.{statement}
 use Rattle.matcher.proofs.form.+are_pattern_labels.Tie.{close}
 

@@ -2,7 +2,7 @@
 -- Assumes nothing.
 use mathlib.Core.Path.{sym, _∙_}
 use borrow.Author.Needs.{needs}
-use Rattle.matcher.proofs.Parts.{no-items}
+use Rattle.glob.proofs.Parts.{no-items}
 use Rattle.matcher.proofs.Apart.{ends-slash, ends-label}
 use Rattle.matcher.proofs.form.is_path.Statement.{statement}
 use Rattle.matcher.proofs.form.is_path.Tie as tie

@@ -2,7 +2,7 @@
 -- Assumes nothing.
 use mathlib.Core.Path.{sym, _∙_}
 use borrow.Author.Needs.{needs}
-use Rattle.matcher.proofs.Parts.{no-items, not-none}
+use Rattle.glob.proofs.Parts.{no-items, not-none}
 use Rattle.matcher.proofs.form.is_pattern_label.Statement.{statement}
 use Rattle.matcher.proofs.form.is_pattern_label.Tie as tie
 

@@ -8,7 +8,7 @@ use borrow.Author.Tests.{not-true, not-false}
 use borrow.Author.Needs.{needs}
 use Rattle.matcher.specs.Labels.{labelsOf}
 use Rattle.matcher.specs.Reach.{beginsLabels}
-use Rattle.matcher.proofs.Cuts.{skip-labels, skip-begun}
+use Rattle.glob.proofs.Cuts.{skip-labels, skip-begun}
 use Rattle.matcher.proofs.Decided.{begins-begun}
 use Rattle.matcher.proofs.reach.reach_open.Statement.{statement}
 use Rattle.matcher.proofs.reach.reach_open.Tie as tie

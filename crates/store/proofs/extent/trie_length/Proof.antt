@@ -10,28 +10,28 @@ use Rattle.store.proofs.extent.trie_length.Tie as tie
 use Rattle.store.proofs.extent.trie_length.Reads as reads
 use Rattle.store.proofs.extent.trie_length.Lts as lts
 use Rattle.buffer.proofs.numbers.get32.Reads as get32-reads
-use Rattle.store.proofs.front.wide.Reads as front-wide-reads
-use Rattle.trie_read.proofs.head.wide.Reads as head-wide-reads
+use Rattle.trie_read.proofs.head.wide.Reads as wide-reads
+use Rattle.trie_read.proofs.head.wide32.Reads as wide32-reads
 
 abbrev calls : lts.Claims
-calls = (get32-reads.Asked, get32-reads.Learnt, front-wide-reads.Asked, front-wide-reads.Learnt, head-wide-reads.Asked, head-wide-reads.Learnt)
+calls = (get32-reads.Asked, get32-reads.Learnt, wide32-reads.Asked, wide32-reads.Learnt, wide-reads.Asked, wide-reads.Learnt)
 
 -- what is read is the root's
-pub record Read (c : lts.After-wide3 calls reads.Pre reads.Post) : Type 0 where
-  pub end : 7 + c .before .before .wide2 .result + c .wide3 .result + c .before .before .before .before .before .wide .result ≡ ends (c .before .before .before .before .before .before .before .before .before .args .t .now)
-  pub body : c .before .before .before .before .before .wide .result ≡ bodyAt (c .before .before .before .before .before .before .before .before .before .args .t .now)
+pub record Read (c : lts.After-wide2 calls reads.Pre reads.Post) : Type 0 where
+  pub end : 7 + c .before .before .wide .result + c .wide2 .result + c .before .before .before .before .before .wide32 .result ≡ ends (c .before .before .before .before .before .before .before .before .before .args .t .now)
+  pub body : c .before .before .before .before .before .wide32 .result ≡ bodyAt (c .before .before .before .before .before .before .before .before .before .args .t .now)
 
 returns : tie.Need-returns
 returns c = (omega arith, λ f n s w e. no-root _ f n s w e (λ h. absurd (omega (arith, h, c .if1 .taken))))
 
 returns-2 : tie.Need-returns-2
-returns-2 c = (omega arith, λ f n s w e. no-root _ f n s w e (λ h. sym (c .before .wide .ensures .0 ∙ c .before .before .get32 .ensures) ∙ c .if2 .taken))
+returns-2 c = (omega arith, λ f n s w e. no-root _ f n s w e (λ h. sym (c .before .wide32 .ensures .0 ∙ c .before .before .get32 .ensures) ∙ c .if2 .taken))
 
 -- what is read is the root's
-read : (c : lts.After-wide3 calls reads.Pre reads.Post) → Read c
+read : (c : lts.After-wide2 calls reads.Pre reads.Post) → Read c
 read c =
-    let b = c .before .before .before .before .before .wide .ensures .0 ∙ c .before .before .before .before .before .before .get32 .ensures in
-    record { end = rw (c .before .before .wide2 .ensures .0, c .wide3 .ensures .0, b); body = b }
+    let b = c .before .before .before .before .before .wide32 .ensures .0 ∙ c .before .before .before .before .before .before .get32 .ensures in
+    record { end = rw (c .before .before .wide .ensures .0, c .wide2 .ensures .0, b); body = b }
 
 returns-3 : tie.Need-returns-3
 returns-3 c = (

@@ -9,10 +9,10 @@ returns : tie.Need-returns
 unfolding frontOf
 returns c =
     record {
-      m-is = c .before .before .before .before .before .before .wide .ensures .0 ∙ c .before .before .before .before .before .before .before .get32 .ensures;
-      l-is = c .before .before .before .before .wide2 .ensures .0 ∙ c .before .before .before .before .before .get322 .ensures;
-      tau-is = c .before .before .wide3 .ensures .0 ∙ c .before .before .before .get323 .ensures;
-      held-is = c .wide4 .ensures .0 ∙ c .before .get324 .ensures;
+      m-is = c .before .before .before .before .before .before .wide32 .ensures .0 ∙ c .before .before .before .before .before .before .before .get32 .ensures;
+      l-is = c .before .before .before .before .wide322 .ensures .0 ∙ c .before .before .before .before .before .get322 .ensures;
+      tau-is = c .before .before .wide323 .ensures .0 ∙ c .before .before .before .get323 .ensures;
+      held-is = c .wide324 .ensures .0 ∙ c .before .get324 .ensures;
     }
 
 pub read-front-spec : {M : Type 1} → statement M

@@ -1,6 +1,5 @@
 -- One digit at each turn. Assumes nothing.
 use borrow.Author.Needs.{needs}
-use native.Mathlib.Omega.{arith}
 use Prim.Native.Nat.{_-_, _/_}
 use Rattle.store_overflow.proofs.Halving.{Halved, whole, halved, stopped, none-empty}
 use Rattle.store_overflow.proofs.digits.first_empty.Statement.{statement}

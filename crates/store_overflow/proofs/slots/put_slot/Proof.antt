@@ -1,7 +1,7 @@
 -- Five writes make the slot. Assumes nothing.
 use borrow.Author.Needs.{needs}
 use native.Mathlib.Omega.{arith}
-use mathlib.Core.Path.{_≡_, _∙_}
+use mathlib.Core.Path.{_∙_}
 use lib.ListN.{length-set}
 use Rattle.store_overflow.specs.Steps.{entry}
 use Rattle.store_overflow.proofs.Placing.{slot-put}

@@ -12,7 +12,7 @@ use Rattle.trie_build.proofs.nodes.put_rest.Tie as tie
 use Rattle.trie_build.proofs.nodes.put_rest.Reads as reads
 use Rattle.trie_build.proofs.nodes.put_rest.Lts as lts
 use Rattle.buffer.proofs.moves.move_within.Reads as move-within-reads
-use Rattle.trie_sets.proofs.positions.wide.Reads as wide-reads
+use Rattle.trie_read.proofs.head.wide.Reads as wide-reads
 
 abbrev calls : lts.Claims
 calls = (wide-reads.Asked, wide-reads.Learnt, move-within-reads.Asked, move-within-reads.Learnt)

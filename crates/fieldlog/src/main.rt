@@ -1,0 +1,104 @@
+// `fieldlog`: carries out the lines of standard input on a store of its own, and prints. All that matters stands in the crates `logline` and `session`;
+// here bytes are only read and written. A line is carried out as soon as its end has been read, however the input arrives.
+use logline::lines::Event;
+use logline::lines::Feed;
+use logline::sizes::LINE_LIMIT;
+use session::sizes::ANSWER_SIZE;
+use session::sizes::PRINT_LIMIT;
+use session::sizes::STORE_SIZE;
+ghost use mathlib.Core.Path.{_≡_};
+ghost use lib.ListN.{length};
+ghost use Rattle.logline.specs.Sizes.{lineLimit};
+ghost use Rattle.session.specs.Sizes.{storeSize, answerSize, printLimit};
+
+// More reads than any input needs: the loop has to end.
+const READS: u64 = 18446744073709551615;
+
+fn print_front(out: &[u8], n: usize) {
+    if n <= out.len() {
+        io::write_all(1, &out[0..n]);
+    }
+}
+
+// Carries out what a byte, or the end of the input, completes.
+fn carry_out(event: Event, line: &[u8], store: &mut [u8], answer: &mut [u8], out: &mut [u8])
+    requires { ⌜ (length (now store) ≡ storeSize) × (length (now answer) ≡ answerSize) × (length (now out) ≡ printLimit) ⌝ }
+{
+    match event {
+        Event::Nothing => {}
+        Event::Line(n) => {
+            if n <= line.len() {
+                let m = session::run::run_line(&line[0..n], store, answer, out);
+                print_front(out, m);
+            }
+        }
+        Event::Long => {
+            let m = session::run::run_long(store, out);
+            print_front(out, m);
+        }
+    }
+}
+
+// Feeds one byte; returns how many bytes the line then has.
+fn feed(
+    len: usize,
+    line: &mut [u8],
+    byte: u8,
+    store: &mut [u8],
+    answer: &mut [u8],
+    out: &mut [u8],
+) -> usize
+    requires { ⌜ (length (now line) ≡ lineLimit) × (length (now store) ≡ storeSize) × (length (now answer) ≡ answerSize) × (length (now out) ≡ printLimit) ⌝ }
+{
+    let pushed = logline::lines::push(Feed { len }, line, byte);
+    carry_out(pushed.event, line, store, answer, out);
+    let next = pushed.feed;
+    next.len
+}
+
+fn feed_chunk(
+    start: usize,
+    line: &mut [u8],
+    chunk: &[u8],
+    store: &mut [u8],
+    answer: &mut [u8],
+    out: &mut [u8],
+) -> usize
+    requires { ⌜ (length (now line) ≡ lineLimit) × (length (now store) ≡ storeSize) × (length (now answer) ≡ answerSize) × (length (now out) ≡ printLimit) ⌝ }
+{
+    let mut len = start;
+    let mut i: usize = 0;
+    while i < chunk.len() {
+        len = feed(len, line, chunk[i], store, answer, out);
+        i += 1;
+    }
+    len
+}
+
+fn main() {
+    let mut store = [0u8; STORE_SIZE];
+    let mut answer = [0u8; ANSWER_SIZE];
+    let mut out = [0u8; PRINT_LIMIT];
+    let mut line = [0u8; LINE_LIMIT];
+    let mut chunk = [0u8; 4096];
+    let mut len: usize = 0;
+    let mut reads: u64 = 0;
+    while reads < READS {
+        let n = io::count(libc::read(0, &mut chunk), &chunk);
+        if n == 0 {
+            reads = READS;
+        } else {
+            len = feed_chunk(
+                len,
+                &mut line,
+                &chunk[0..n],
+                &mut store,
+                &mut answer,
+                &mut out,
+            );
+            reads += 1;
+        }
+    }
+    let event = logline::lines::finish(Feed { len });
+    carry_out(event, &line, &mut store, &mut answer, &mut out);
+}

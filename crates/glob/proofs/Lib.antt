@@ -1,0 +1,5 @@
+-- Laws that belong to no function. They are for the proofs of crate matcher too.
+pub mod Parts
+pub mod Trials
+pub mod Cuts
+mod Begins

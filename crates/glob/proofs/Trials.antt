@@ -1,0 +1,96 @@
+-- The laws of `fit`, over any pattern and any items: how a trial of the rest becomes a trial of the whole.
+-- Assumes nothing.
+use mathlib.Core.Path.{_≡_, refl, sym, ap, _∙_}
+use mathlib.Core.List.{List, [], _∷_}
+use mathlib.Core.Bool.{Bool, true, false, cond, _&&_, _||_}
+use Prim.Native.Nat.{ℕ}
+use native.Mathlib.Omega.{arith}
+use lib.ListN.{length, getD}
+use lib.Dec.{eqb}
+use borrow.Author.Tests.{eq-eqb, ne-eqb}
+use Rattle.buffer.specs.Lists.{none}
+use Rattle.glob.specs.Bytes.{star}
+use Rattle.glob.specs.Fit.{afterSome, first, fit, fitsLabel}
+use Rattle.glob.specs.Inner.{Says, isFit}
+use Rattle.glob.specs.declared.fit.Trial.{Trial}
+use Rattle.glob.specs.declared.fit.Trial.the-variants.{Fits, Fails, Never}
+use Rattle.buffer.proofs.Tests.{and-false, or-false, or-left, or-left-false, or-right-false}
+use Rattle.glob.proofs.Parts.{rest, split, no-items}
+
+-- where k never holds, it does not hold now
+never-now : {B : Type 0} (k : List B → Bool) (s : List B) → afterSome k s ≡ false → k s ≡ false
+never-now k [] e = e
+never-now k (x ∷ s) e = or-left-false (k (x ∷ s)) (afterSome k s) e
+
+module _ {B : Type 0} (k : List B → Bool) where
+  pub now-some : (s : List B) → k s ≡ true → afterSome k s ≡ true
+  now-some [] e = e
+  now-some (x ∷ s) e = or-left (k (x ∷ s)) (afterSome k s) e
+
+  -- what a trial says, as a Bool
+  pub says-is : (s : List B) (r : Trial) → Says k s r → isFit r ≡ k s
+  says-is s Fits e = sym e
+  says-is s Fails e = sym e
+  says-is s Never e = sym (never-now k s e)
+
+  -- what never holds after some are taken never holds after some and some are taken
+  pub never-twice : (s : List B) → afterSome k s ≡ false → afterSome (afterSome k) s ≡ false
+  never-twice [] e = e
+  never-twice (x ∷ s) e = or-false (afterSome k (x ∷ s)) (afterSome (afterSome k) s) e (never-twice s (or-right-false (k (x ∷ s)) (afterSome k s) e))
+
+  -- k does not hold of all of s, and an answer is known for a wild element on the rest of s: it is the answer for all of s
+  pub wild-on : (x : B) (s : List B) (r : Trial) → k (x ∷ s) ≡ false → Says (afterSome k) s r → Says (afterSome k) (x ∷ s) r
+  wild-on x s Fits e h = rw (e, h)
+  wild-on x s Fails e h = rw (e, h)
+  wild-on x s Never e h = or-false (k (x ∷ s) || afterSome k s) (afterSome (afterSome k) s) (or-false (k (x ∷ s)) (afterSome k s) e (never-now (afterSome k) s h)) h
+
+  -- an answer for what is left of s, t, is the answer for all of s
+  abbrev pub Passes : List B → List B → Type 0
+  Passes t s = (r : Trial) → Says (afterSome k) t r → Says (afterSome k) s r
+
+  -- k does not hold of t, so one element more is taken
+  pub pass-on : (x : B) (t s : List B) → k (x ∷ t) ≡ false → Passes (x ∷ t) s → Passes t s
+  pass-on x t s e h = λ r y. h r (wild-on x t r e y)
+
+  -- at the end there is nothing more to take
+  pub pass-end : (t s : List B) (r : Trial) → length t ≡ 0 → Passes t s → Says k t r → Says (afterSome k) s r
+  pass-end [] s Fits l h y = h Fits y
+  pass-end [] s Fails l h y = h Fails y
+  pass-end [] s Never l h y = h Never y
+  pass-end (x ∷ t) s r l h y = let z : _≡_ {A = ℕ} 0 1 = cc in absurd (omega arith)
+
+  module _ (f : B → Bool) where
+    -- where k never holds of the rest, f and k never hold of an element and a rest
+    pub never-first : (s : List B) → afterSome k s ≡ false → afterSome (first f k) s ≡ false
+    never-first [] e = refl
+    never-first (x ∷ s) e = or-false (f x && k s) (afterSome (first f k) s)
+        (and-false (f x) (k s) (never-now k s (or-right-false (k (x ∷ s)) (afterSome k s) e)))
+        (never-first s (or-right-false (k (x ∷ s)) (afterSome k s) e))
+
+    -- an element passes f: the answer for the rest is the answer
+    pub first-on : (x : B) (s : List B) (r : Trial) → f x ≡ true → Says k s r → Says (first f k) (x ∷ s) r
+    first-on x s Fits e h = rw (e, h)
+    first-on x s Fails e h = rw (e, h)
+    first-on x s Never e h = or-false (f x && k s) (afterSome (first f k) s) (and-false (f x) (k s) (never-now k s h)) (never-first s h)
+
+    pub first-off : (x : B) (s : List B) → f x ≡ false → first f k (x ∷ s) ≡ false
+    first-off x s e = rw e
+
+-- what `fit` is at a wild element and at another
+pub fit-wild : {A B : Type 0} (wild : A → Bool) (one : A → B → Bool) (a : A) (p : List A) → wild a ≡ true → fit wild one (a ∷ p) ≡ afterSome (fit wild one p)
+unfolding fit
+fit-wild wild one a p e = ap (λ (b : Bool). λ s. cond b (afterSome (fit wild one p) s) (first (one a) (fit wild one p) s)) e
+
+pub fit-one : {A B : Type 0} (wild : A → Bool) (one : A → B → Bool) (a : A) (p : List A) → wild a ≡ false → fit wild one (a ∷ p) ≡ first (one a) (fit wild one p)
+unfolding fit
+fit-one wild one a p e = ap (λ (b : Bool). λ s. cond b (afterSome (fit wild one p) s) (first (one a) (fit wild one p) s)) e
+
+pub star-law : (p : List ℕ) → (length p ≡ 0 → ⊥) → getD p 0 0 ≡ star → fitsLabel p ≡ afterSome (fitsLabel (rest p))
+star-law p f e = ap fitsLabel (split p f) ∙ fit-wild (eqb star) eqb (getD p 0 0) (rest p) (eq-eqb star (getD p 0 0) (sym e))
+
+pub byte-law : (p : List ℕ) → (length p ≡ 0 → ⊥) → (getD p 0 0 ≡ star → ⊥) → fitsLabel p ≡ first (eqb (getD p 0 0)) (fitsLabel (rest p))
+byte-law p f e = ap fitsLabel (split p f) ∙ fit-one (eqb star) eqb (getD p 0 0) (rest p) (ne-eqb star (getD p 0 0) (λ h. e (sym h)))
+
+pub end-law : (p : List ℕ) → length p ≡ 0 → fitsLabel p ≡ none
+unfolding fit
+end-law p e = ap fitsLabel (no-items p e)

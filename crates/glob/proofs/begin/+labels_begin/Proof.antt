@@ -1,0 +1,96 @@
+-- The proof of the cycle of calls {labels_begin}. The measure is the pattern's bytes left. Assumes nothing.
+use mathlib.Core.Path.{sym, _∙_}
+use Prim.Native.Nat.{ℕ, _+_, _<_}
+use lib.ListN.{length}
+use borrow.Author.Needs.{needs}
+use borrow.Fn.Kinds.{In}
+use borrow.Fn.PlainCycle.{Measures, is, falls, and}
+use Rattle.glob.proofs.Begins.{labels-end, labels-done, labels-more, last-cut, other-cut}
+use Rattle.glob.proofs.begin.labels_begin.Reads as labels-begin
+use Rattle.glob.proofs.begin.labels_begin.Kinds as labels-begin-kinds
+use Rattle.glob.proofs.begin.+labels_begin.Lts-labels_begin as labels-begin-lts
+use Rattle.glob.proofs.begin.label_begins.Reads as label-begins-reads
+use Rattle.glob.proofs.fit.label_fits.Reads as label-fits-reads
+use Rattle.glob.proofs.split.is_deep.Reads as is-deep-reads
+use Rattle.glob.proofs.split.label_end.Reads as label-end-reads
+use Rattle.glob.proofs.begin.+labels_begin.{statement}
+use Rattle.glob.proofs.begin.+labels_begin.Tie.{close}
+
+abbrev μ-labels-begin : Measures 2 labels-begin-kinds.ps ℕ
+μ-labels-begin κs a = length (a .0 .now)
+
+abbrev labels-begin-at : ℕ → In 2 labels-begin-kinds.ps
+labels-begin-at t = and 2 labels-begin-kinds.ps (is 2 labels-begin-kinds.ps μ-labels-begin t) labels-begin.Pre
+
+abbrev labels-begin-below : ℕ → In 2 labels-begin-kinds.ps
+labels-begin-below t = and 2 labels-begin-kinds.ps (falls 2 labels-begin-kinds.ps _<_ μ-labels-begin t) labels-begin.Pre
+
+-- what the callees of `labels_begin` ask and give
+abbrev labels-begin-calls : ℕ → labels-begin-lts.Claims
+labels-begin-calls t = (label-end-reads.Asked, label-end-reads.Learnt, is-deep-reads.Asked, is-deep-reads.Learnt, label-begins-reads.Asked, label-begins-reads.Learnt, label-fits-reads.Asked, label-fits-reads.Learnt, labels-begin-below t, labels-begin.Post)
+
+labels-begin-returns : (t : ℕ) → labels-begin-lts.Need-returns (labels-begin-calls t) (labels-begin-at t) labels-begin.Post
+labels-begin-returns t c = labels-end (c .before .before .before .args .pattern .now) (c .before .before .before .args .known .now) (c .if1 .taken) (c .before .before .before .pre .1 .1)
+
+labels-begin-returns-2 : (t : ℕ) → labels-begin-lts.Need-returns-2 (labels-begin-calls t) (labels-begin-at t) labels-begin.Post
+labels-begin-returns-2 t c = labels-done (c .before .before .before .before .args .pattern .now) (c .before .before .before .before .args .known .now) (c .before .if1 .left) (c .before .before .before .before .pre .1 .0) (c .if2 .taken)
+
+labels-begin-returns-3 : (t : ℕ) → labels-begin-lts.Need-returns-3 (labels-begin-calls t) (labels-begin-at t) labels-begin.Post
+labels-begin-returns-3 t c =
+    let law = labels-more (c .before .before .before .before .before .before .before .before .before .args .pattern .now) (c .before .before .before .before .before .before .before .before .before .args .known .now) (c .before .before .before .before .label-end .result) (c .before .before .before .label-end2 .result) (c .before .before .before .before .label-end .ensures) (c .before .before .before .label-end2 .ensures) in
+    rw (law, sym (c .before .is-deep .ensures) ∙ c .if3 .taken)
+
+labels-begin-returns-4 : (t : ℕ) → labels-begin-lts.Need-returns-4 (labels-begin-calls t) (labels-begin-at t) labels-begin.Post
+labels-begin-returns-4 t c =
+    let law = labels-more (c .before .before .before .before .before .before .before .before .before .before .before .before .before .args .pattern .now) (c .before .before .before .before .before .before .before .before .before .before .before .before .before .args .known .now) (c .before .before .before .before .before .before .before .before .label-end .result) (c .before .before .before .before .before .before .before .label-end2 .result) (c .before .before .before .before .before .before .before .before .label-end .ensures) (c .before .before .before .before .before .before .before .label-end2 .ensures) in
+    rw (law, sym (c .before .before .before .before .before .is-deep .ensures) ∙ c .before .before .before .before .if3 .left, last-cut (c .before .before .before .before .before .before .before .before .before .before .before .before .before .args .known .now) (c .before .before .before .before .before .before .before .label-end2 .result) (c .before .before .before .if4 .taken)) (c .label-begins .ensures)
+
+labels-begin-returns-5 : (t : ℕ) → labels-begin-lts.Need-returns-5 (labels-begin-calls t) (labels-begin-at t) labels-begin.Post
+labels-begin-returns-5 t c =
+    let law = labels-more (c .before .before .before .before .before .before .before .before .before .before .before .before .before .before .before .before .before .args .pattern .now) (c .before .before .before .before .before .before .before .before .before .before .before .before .before .before .before .before .before .args .known .now) (c .before .before .before .before .before .before .before .before .before .before .before .before .label-end .result) (c .before .before .before .before .before .before .before .before .before .before .before .label-end2 .result) (c .before .before .before .before .before .before .before .before .before .before .before .before .label-end .ensures) (c .before .before .before .before .before .before .before .before .before .before .before .label-end2 .ensures) in
+    let more = other-cut (c .before .before .before .before .before .before .before .before .before .before .before .before .before .before .before .before .before .args .known .now) (c .before .before .before .before .before .before .before .before .before .before .before .label-end2 .result) (c .before .before .before .before .before .before .before .before .before .before .before .label-end2 .ensures) (c .before .before .before .before .before .before .before .if4 .left) in
+    rw (law, sym (c .before .before .before .before .before .before .before .before .before .is-deep .ensures) ∙ c .before .before .before .before .before .before .before .before .if3 .left, more, sym (c .before .before .before .before .label-fits .ensures) ∙ c .before .before .before .if5 .taken) (c .labels-begin .ensures)
+
+labels-begin-returns-6 : (t : ℕ) → labels-begin-lts.Need-returns-6 (labels-begin-calls t) (labels-begin-at t) labels-begin.Post
+labels-begin-returns-6 t c =
+    let law = labels-more (c .before .before .before .before .before .before .before .before .before .before .before .before .before .before .args .pattern .now) (c .before .before .before .before .before .before .before .before .before .before .before .before .before .before .args .known .now) (c .before .before .before .before .before .before .before .before .before .label-end .result) (c .before .before .before .before .before .before .before .before .label-end2 .result) (c .before .before .before .before .before .before .before .before .before .label-end .ensures) (c .before .before .before .before .before .before .before .before .label-end2 .ensures) in
+    let more = other-cut (c .before .before .before .before .before .before .before .before .before .before .before .before .before .before .args .known .now) (c .before .before .before .before .before .before .before .before .label-end2 .result) (c .before .before .before .before .before .before .before .before .label-end2 .ensures) (c .before .before .before .before .if4 .left) in
+    rw (law, sym (c .before .before .before .before .before .before .is-deep .ensures) ∙ c .before .before .before .before .before .if3 .left, more, sym (c .before .label-fits .ensures) ∙ c .if5 .left)
+
+pub +labels-begin-spec : {M : Type 1} → statement M
++labels-begin-spec = close μ-labels-begin λ t. labels-begin-lts.spec (labels-begin-calls t)
+    (labels-begin-at t)
+    labels-begin.Post
+    (labels-begin-returns t)
+    (labels-begin-returns-2 t)
+    (λ c κs. search needs)
+    (λ c κs. search needs)
+    (λ c. search needs)
+    (λ c. search needs)
+    (λ c. search needs)
+    (λ c κs. search needs)
+    (labels-begin-returns-3 t)
+    (λ c. search needs)
+    (λ c. search needs)
+    (λ c. search needs)
+    (λ c. search needs)
+    (λ c. search needs)
+    (λ c. search needs)
+    (λ c κs. search needs)
+    (labels-begin-returns-4 t)
+    (λ c. search needs)
+    (λ c. search needs)
+    (λ c. search needs)
+    (λ c. search needs)
+    (λ c. search needs)
+    (λ c. search needs)
+    (λ c κs. search needs)
+    (λ c. search needs)
+    (λ c. search needs)
+    (λ c. search needs)
+    (λ c. search needs)
+    (λ c. search needs)
+    (λ c. search needs)
+    (λ c κs. search needs)
+    (labels-begin-returns-5 t)
+    (labels-begin-returns-6 t)

@@ -1,0 +1,165 @@
+-- The proof of the cycle of calls {after_star, label}. The measure is the pattern's bytes left, twice, and one more for `after_star`, which calls
+-- `label` with the pattern that it is given. The invariant of the loop: an answer for what is left of the label is the answer for all of it.
+-- Assumes nothing.
+use mathlib.Core.Path.{_≡_, sym, subst}
+use mathlib.Core.List.{List}
+use mathlib.Core.Bool.{Bool, false}
+use Prim.Native.Nat.{ℕ, _+_, _*_, _-_, _<_, _≤_}
+use lib.ListN.{length, getD}
+use lib.Dec.{eqb}
+use borrow.Author.Tests.{eq-eqb, ne-eqb}
+use borrow.Author.Needs.{needs}
+use borrow.Fn.Kinds.{In}
+use borrow.Fn.PlainCycle.{Measures, is, falls, and}
+use Rattle.glob.specs.Fit.{afterSome, first, fitsLabel}
+use Rattle.glob.specs.Inner.{Says}
+use Rattle.glob.specs.declared.fit.Trial.the-variants.{Fits, Never}
+use Rattle.glob.proofs.Parts.{rest, split, back, back-all, back-step, back-end, no-items, an-item}
+use Rattle.glob.proofs.Trials.{Passes, pass-on, pass-end, now-some, never-twice, first-on, first-off, star-law, byte-law, end-law}
+use Rattle.glob.proofs.fit.after_star.Reads as after-star
+use Rattle.glob.proofs.fit.after_star.Kinds as after-star-kinds
+use Rattle.glob.proofs.fit.+after_star+label.Lts-after_star as after-star-lts
+use Rattle.glob.proofs.fit.label.Reads as label
+use Rattle.glob.proofs.fit.label.Kinds as label-kinds
+use Rattle.glob.proofs.fit.+after_star+label.Lts-label as label-lts
+use Rattle.glob.proofs.fit.+after_star+label.{statement}
+use Rattle.glob.proofs.fit.+after_star+label.Tie.{close}
+
+abbrev μ-after-star : Measures 2 after-star-kinds.ps ℕ
+μ-after-star κs a = 2 * length (a .0 .now) + 1
+
+abbrev μ-label : Measures 2 label-kinds.ps ℕ
+μ-label κs a = 2 * length (a .0 .now)
+
+abbrev after-star-at : ℕ → In 2 after-star-kinds.ps
+after-star-at t = and 2 after-star-kinds.ps (is 2 after-star-kinds.ps μ-after-star t) after-star.Pre
+
+abbrev after-star-below : ℕ → In 2 after-star-kinds.ps
+after-star-below t = and 2 after-star-kinds.ps (falls 2 after-star-kinds.ps _<_ μ-after-star t) after-star.Pre
+
+abbrev label-at : ℕ → In 2 label-kinds.ps
+label-at t = and 2 label-kinds.ps (is 2 label-kinds.ps μ-label t) label.Pre
+
+abbrev label-below : ℕ → In 2 label-kinds.ps
+label-below t = and 2 label-kinds.ps (falls 2 label-kinds.ps _<_ μ-label t) label.Pre
+
+-- what the callees of `after_star` and of `label` ask and give
+abbrev after-star-calls : ℕ → after-star-lts.Claims
+after-star-calls t = (label-below t, label.Post)
+
+abbrev label-calls : ℕ → label-lts.Claims
+label-calls t = (after-star-below t, after-star.Post, label-below t, label.Post)
+
+abbrev after-star-Inv-loop : after-star-lts.InvT-loop
+after-star-Inv-loop p s i₀ i = (i ≤ length s) × Passes (fitsLabel p) (back s i) s
+
+abbrev after-star-μ-loop : after-star-lts.MeasureT-loop
+after-star-μ-loop p s i₀ i = length s - i
+
+after-star-loop-holds : (t : ℕ) → after-star-lts.Need-loop-holds (after-star-calls t) (after-star-at t) after-star.Post after-star-Inv-loop after-star-μ-loop
+after-star-loop-holds t c = (search needs, λ r y. subst (λ (l : List ℕ). Says (afterSome (fitsLabel (c .before .before .args .p .now))) l r) (back-all (c .before .before .args .s .now)) y)
+
+after-star-returns : (t : ℕ) → after-star-lts.Need-returns (after-star-calls t) (after-star-at t) after-star.Post after-star-Inv-loop after-star-μ-loop
+after-star-returns t c =
+    let k = fitsLabel (c .before .before .before .before .before .before .before .before .args .p .now) in
+    let l = back (c .before .before .before .before .before .before .before .before .args .s .now) (c .before .before .before .before .before .loop .i) in
+    c .before .before .before .before .before .loop .inv .1 Fits (now-some k l (subst (Says k l) (c .enum-told .given .1) (c .before .before .label .ensures)))
+
+after-star-returns-2 : (t : ℕ) → after-star-lts.Need-returns-2 (after-star-calls t) (after-star-at t) after-star.Post after-star-Inv-loop after-star-μ-loop
+after-star-returns-2 t c =
+    let k = fitsLabel (c .before .before .before .before .before .before .before .before .args .p .now) in
+    let l = back (c .before .before .before .before .before .before .before .before .args .s .now) (c .before .before .before .before .before .loop .i) in
+    c .before .before .before .before .before .loop .inv .1 Never (never-twice k l (subst (Says k l) (c .enum-told2 .given .1) (c .before .before .label .ensures)))
+
+after-star-loop-again : (t : ℕ) → after-star-lts.Need-loop-again (after-star-calls t) (after-star-at t) after-star.Post after-star-Inv-loop after-star-μ-loop
+after-star-loop-again t c =
+    let s = c .before .before .before .before .before .before .before .before .args .s .now in
+    let i = c .before .before .before .before .before .loop .i in
+    let k = fitsLabel (c .before .before .before .before .before .before .before .before .args .p .now) in
+    let no = subst (Says k (back s i)) (c .enum-told3 .given .1) (c .before .before .label .ensures) in
+    let cut = back-step s i (c .before .before .before .before .loop-test .taken) in
+    (search needs, pass-on k (getD s i 0) (back s (i + 1)) s (subst (λ (l : List ℕ). k l ≡ false) cut no) (subst (λ (l : List ℕ). Passes k l s) cut (c .before .before .before .before .before .loop .inv .1)))
+
+after-star-returns-3 : (t : ℕ) → after-star-lts.Need-returns-3 (after-star-calls t) (after-star-at t) after-star.Post after-star-Inv-loop after-star-μ-loop
+after-star-returns-3 t c =
+    let s = c .before .before .before .before .before .before .args .s .now in
+    let i = c .before .before .before .loop .i in
+    pass-end (fitsLabel (c .before .before .before .before .before .before .args .p .now)) (back s i) s (c .label2 .result) (back-end s i (c .before .before .loop-test .left)) (c .before .before .before .loop .inv .1) (c .label2 .ensures)
+
+label-returns : (t : ℕ) → label-lts.Need-returns (label-calls t) (label-at t) label.Post
+label-returns t c = rw (end-law (c .before .before .before .before .args .p .now) (c .before .if1 .taken), no-items (c .before .before .before .before .args .s .now) (c .if2 .taken))
+
+label-returns-2 : (t : ℕ) → label-lts.Need-returns-2 (label-calls t) (label-at t) label.Post
+label-returns-2 t c = rw (end-law (c .before .before .before .before .args .p .now) (c .before .if1 .taken), an-item 0 (c .before .before .before .before .args .s .now) (c .if2 .left))
+
+label-returns-3 : (t : ℕ) → label-lts.Need-returns-3 (label-calls t) (label-at t) label.Post
+label-returns-3 t c =
+    subst (λ (g : List ℕ → Bool). Says g (c .before .before .before .before .before .before .before .args .s .now) (c .after-star .result)) (sym (star-law (c .before .before .before .before .before .before .before .args .p .now) (c .before .before .before .before .if1 .left) (c .before .before .if3 .taken))) (c .after-star .ensures)
+
+label-returns-4 : (t : ℕ) → label-lts.Need-returns-4 (label-calls t) (label-at t) label.Post
+label-returns-4 t c = rw (byte-law (c .before .before .before .before .before .before .args .p .now) (c .before .before .before .if1 .left) (c .before .if3 .left), no-items (c .before .before .before .before .before .before .args .s .now) (c .if4 .taken))
+
+label-returns-5 : (t : ℕ) → label-lts.Need-returns-5 (label-calls t) (label-at t) label.Post
+label-returns-5 t c =
+    let s = c .before .before .before .before .before .before .before .before .before .before .before .before .args .s .now in
+    let k = fitsLabel (rest (c .before .before .before .before .before .before .before .before .before .before .before .before .args .p .now)) in
+    let f = eqb (getD (c .before .before .before .before .before .before .before .before .before .before .before .before .args .p .now) 0 0) in
+    subst (λ (g : List ℕ → Bool). Says g s (c .label .result)) (sym (byte-law (c .before .before .before .before .before .before .before .before .before .before .before .before .args .p .now) (c .before .before .before .before .before .before .before .before .before .if1 .left) (c .before .before .before .before .before .before .before .if3 .left)))
+    (subst (λ (l : List ℕ). Says (first f k) l (c .label .result)) (sym (split s (c .before .before .before .before .before .before .if4 .left)))
+    (first-on k f (getD s 0 0) (rest s) (c .label .result) (eq-eqb _ _ (c .before .before .before .if5 .taken)) (c .label .ensures)))
+
+label-returns-6 : (t : ℕ) → label-lts.Need-returns-6 (label-calls t) (label-at t) label.Post
+label-returns-6 t c =
+    let s = c .before .before .before .before .before .before .before .before .before .args .s .now in
+    let k = fitsLabel (rest (c .before .before .before .before .before .before .before .before .before .args .p .now)) in
+    let f = eqb (getD (c .before .before .before .before .before .before .before .before .before .args .p .now) 0 0) in
+    rw (byte-law (c .before .before .before .before .before .before .before .before .before .args .p .now) (c .before .before .before .before .before .before .if1 .left) (c .before .before .before .before .if3 .left))
+    (subst (λ (l : List ℕ). first f k l ≡ false) (sym (split s (c .before .before .before .if4 .left))) (first-off k f (getD s 0 0) (rest s) (ne-eqb _ _ (c .if5 .left))))
+
+pub +after-star+label-spec : {M : Type 1} → statement M
++after-star+label-spec = close μ-after-star μ-label (λ t. after-star-lts.spec (after-star-calls t)
+    (after-star-at t)
+    after-star.Post
+    after-star-Inv-loop
+    after-star-μ-loop
+    (after-star-loop-holds t)
+    (λ c. search needs)
+    (λ c. search needs)
+    (λ c. search needs)
+    (λ c κs. search needs)
+    (λ c. search needs)
+    (after-star-returns t)
+    (λ c. search needs)
+    (after-star-returns-2 t)
+    (λ c. search needs)
+    (λ c. search needs)
+    (λ c. search needs)
+    (after-star-loop-again t)
+    (λ c. search needs)
+    (λ c. search needs)
+    (λ c. search needs)
+    (λ c κs. search needs)
+    (after-star-returns-3 t))
+    λ t. label-lts.spec (label-calls t)
+    (label-at t)
+    label.Post
+    (label-returns t)
+    (label-returns-2 t)
+    (λ c. search needs)
+    (λ c. search needs)
+    (λ c. search needs)
+    (λ c. search needs)
+    (λ c κs. search needs)
+    (label-returns-3 t)
+    (label-returns-4 t)
+    (λ c. search needs)
+    (λ c. search needs)
+    (λ c. search needs)
+    (λ c. search needs)
+    (λ c. search needs)
+    (λ c. search needs)
+    (λ c. search needs)
+    (λ c. search needs)
+    (λ c κs. search needs)
+    (label-returns-5 t)
+    (label-returns-6 t)

@@ -1,0 +1,215 @@
+-- The proof of the cycle of calls {descend, labels}. The measure is the bytes left of both, twice, and one more for `descend`, which calls `labels`
+-- with the pattern that it is given. The invariant of the loop: an answer for the labels that are left is the answer for all of them.
+-- Assumes nothing.
+use mathlib.Core.Path.{sym, ap, subst, _∙_}
+use mathlib.Core.List.{List}
+use mathlib.Core.Bool.{Bool}
+use Prim.Native.Nat.{ℕ, _+_, _*_, _-_, _<_, _≤_}
+use lib.ListN.{length}
+use borrow.Author.Needs.{needs}
+use borrow.Author.Tests.{not-true, not-false}
+use borrow.Fn.Kinds.{In}
+use borrow.Fn.PlainCycle.{Measures, is, falls, and}
+use Rattle.glob.specs.Labels.{labelsOf, Begun}
+use Rattle.glob.specs.Fit.{afterSome, fit, fitsLabel, fitLabels}
+use Rattle.glob.specs.Inner.{Says}
+use Rattle.glob.specs.declared.fit.Trial.the-variants.{Fits, Never}
+use Rattle.glob.proofs.Parts.{front, back, back-all, back-back, back-end}
+use Rattle.glob.proofs.Trials.{Passes, pass-end, now-some, never-twice}
+use Rattle.glob.proofs.Cuts.{no-labels, some-labels, deep-law, one-law, pass-cut, first-cut, first-not}
+use Rattle.glob.proofs.fit.descend.Reads as descend
+use Rattle.glob.proofs.fit.descend.Kinds as descend-kinds
+use Rattle.glob.proofs.fit.+descend+labels.Lts-descend as descend-lts
+use Rattle.glob.proofs.fit.labels.Reads as labels
+use Rattle.glob.proofs.fit.labels.Kinds as labels-kinds
+use Rattle.glob.proofs.fit.+descend+labels.Lts-labels as labels-lts
+use Rattle.glob.proofs.fit.label_fits.Reads as label-fits-reads
+use Rattle.glob.proofs.split.is_deep.Reads as is-deep-reads
+use Rattle.glob.proofs.split.label_end.Reads as label-end-reads
+use Rattle.glob.proofs.fit.+descend+labels.{statement}
+use Rattle.glob.proofs.fit.+descend+labels.Tie.{close}
+
+abbrev μ-descend : Measures 2 descend-kinds.ps ℕ
+μ-descend κs a = 2 * (length (a .0 .now) + length (a .1 .0 .now)) + 1
+
+abbrev μ-labels : Measures 2 labels-kinds.ps ℕ
+μ-labels κs a = 2 * (length (a .0 .now) + length (a .1 .0 .now))
+
+abbrev descend-at : ℕ → In 2 descend-kinds.ps
+descend-at t = and 2 descend-kinds.ps (is 2 descend-kinds.ps μ-descend t) descend.Pre
+
+abbrev descend-below : ℕ → In 2 descend-kinds.ps
+descend-below t = and 2 descend-kinds.ps (falls 2 descend-kinds.ps _<_ μ-descend t) descend.Pre
+
+abbrev labels-at : ℕ → In 2 labels-kinds.ps
+labels-at t = and 2 labels-kinds.ps (is 2 labels-kinds.ps μ-labels t) labels.Pre
+
+abbrev labels-below : ℕ → In 2 labels-kinds.ps
+labels-below t = and 2 labels-kinds.ps (falls 2 labels-kinds.ps _<_ μ-labels t) labels.Pre
+
+-- what the callees of `descend` and of `labels` ask and give
+abbrev descend-calls : ℕ → descend-lts.Claims
+descend-calls t = (label-end-reads.Asked, label-end-reads.Learnt, labels-below t, labels.Post)
+
+abbrev labels-calls : ℕ → labels-lts.Claims
+labels-calls t = (label-end-reads.Asked, label-end-reads.Learnt, is-deep-reads.Asked, is-deep-reads.Learnt, descend-below t, descend.Post, label-fits-reads.Asked, label-fits-reads.Learnt, labels-below t, labels.Post)
+
+abbrev descend-Inv-loop : descend-lts.InvT-loop
+descend-Inv-loop pattern path b₀ b = (b ≤ length path) × Begun (back path b) × Passes (fitLabels (labelsOf pattern)) (labelsOf (back path b)) (labelsOf path)
+
+abbrev descend-μ-loop : descend-lts.MeasureT-loop
+descend-μ-loop pattern path b₀ b = length path - b
+
+descend-loop-holds : (t : ℕ) → descend-lts.Need-loop-holds (descend-calls t) (descend-at t) descend.Post descend-Inv-loop descend-μ-loop
+descend-loop-holds t c =
+    let s = c .before .before .args .path .now in
+    let k = fitLabels (labelsOf (c .before .before .args .pattern .now)) in
+    let whole = back-all s in
+    (search needs, subst Begun (sym whole) (c .before .before .pre .1 .1), λ r y. subst (λ (l : List ℕ). Says (afterSome k) (labelsOf l) r) whole y)
+
+descend-returns : (t : ℕ) → descend-lts.Need-returns (descend-calls t) (descend-at t) descend.Post descend-Inv-loop descend-μ-loop
+descend-returns t c =
+    let k = fitLabels (labelsOf (c .before .before .before .before .before .before .before .before .before .before .args .pattern .now)) in
+    let l = labelsOf (back (c .before .before .before .before .before .before .before .before .before .before .args .path .now) (c .before .before .before .before .before .before .before .loop .b)) in
+    c .before .before .before .before .before .before .before .loop .inv .2 Fits (now-some k l (subst (Says k l) (c .enum-told .given .1) (c .before .before .labels .ensures)))
+
+descend-returns-2 : (t : ℕ) → descend-lts.Need-returns-2 (descend-calls t) (descend-at t) descend.Post descend-Inv-loop descend-μ-loop
+descend-returns-2 t c =
+    let k = fitLabels (labelsOf (c .before .before .before .before .before .before .before .before .before .before .args .pattern .now)) in
+    let l = labelsOf (back (c .before .before .before .before .before .before .before .before .before .before .args .path .now) (c .before .before .before .before .before .before .before .loop .b)) in
+    c .before .before .before .before .before .before .before .loop .inv .2 Never (never-twice k l (subst (Says k l) (c .enum-told2 .given .1) (c .before .before .labels .ensures)))
+
+descend-loop-again : (t : ℕ) → descend-lts.Need-loop-again (descend-calls t) (descend-at t) descend.Post descend-Inv-loop descend-μ-loop
+descend-loop-again t c =
+    let s = c .before .before .before .before .before .before .before .before .before .before .args .path .now in
+    let b = c .before .before .before .before .before .before .before .loop .b in
+    let e = c .before .before .before .before .label-end .result in
+    let cut = c .before .before .before .before .label-end .ensures in
+    let k = fitLabels (labelsOf (c .before .before .before .before .before .before .before .before .before .before .args .pattern .now)) in
+    let no = subst (Says k (labelsOf (back s b))) (c .enum-told3 .given .1) (c .before .before .labels .ensures) in
+    let more = back-back s b e in
+    (search needs, subst Begun more (cut .begun), subst (λ (l : List ℕ). Passes k (labelsOf l) (labelsOf s)) more (pass-cut k (back s b) e (labelsOf s) cut no (c .before .before .before .before .before .before .before .loop .inv .2)))
+
+descend-returns-3 : (t : ℕ) → descend-lts.Need-returns-3 (descend-calls t) (descend-at t) descend.Post descend-Inv-loop descend-μ-loop
+descend-returns-3 t c =
+    let s = c .before .before .before .before .before .before .args .path .now in
+    let b = c .before .before .before .loop .b in
+    let none-left = ap length (no-labels (back s b) (back-end s b (c .before .before .loop-test .left))) in
+    pass-end (fitLabels (labelsOf (c .before .before .before .before .before .before .args .pattern .now))) (labelsOf (back s b)) (labelsOf s) (c .labels2 .result) none-left (c .before .before .before .loop .inv .2) (c .labels2 .ensures)
+
+labels-returns : (t : ℕ) → labels-lts.Need-returns (labels-calls t) (labels-at t) labels.Post
+unfolding fit
+labels-returns t c = rw (no-labels (c .before .before .before .before .args .pattern .now) (c .before .if1 .taken), no-labels (c .before .before .before .before .args .path .now) (c .if2 .taken))
+
+labels-returns-2 : (t : ℕ) → labels-lts.Need-returns-2 (labels-calls t) (labels-at t) labels.Post
+unfolding fit
+labels-returns-2 t c = rw (no-labels (c .before .before .before .before .args .pattern .now) (c .before .if1 .taken)) (some-labels (c .before .before .before .before .args .path .now) (c .if2 .left) (c .before .before .before .before .pre .1 .1))
+
+labels-returns-3 : (t : ℕ) → labels-lts.Need-returns-3 (labels-calls t) (labels-at t) labels.Post
+labels-returns-3 t c =
+    let a = c .before .before .before .before .before .label-end in
+    let law = deep-law (c .before .before .before .before .before .before .before .before .before .args .pattern .now) (a .result) (a .ensures) (sym (c .before .before .before .is-deep .ensures) ∙ c .before .before .if3 .taken) in
+    subst (λ (g : List (List ℕ) → Bool). Says g (labelsOf (c .before .before .before .before .before .before .before .before .before .args .path .now)) (c .descend .result)) (sym law) (c .descend .ensures)
+
+labels-returns-4 : (t : ℕ) → labels-lts.Need-returns-4 (labels-calls t) (labels-at t) labels.Post
+labels-returns-4 t c =
+    let a = c .before .before .before .before .label-end in
+    rw (one-law (c .before .before .before .before .before .before .before .before .args .pattern .now) (a .result) (a .ensures) (sym (c .before .before .is-deep .ensures) ∙ c .before .if3 .left), no-labels (c .before .before .before .before .before .before .before .before .args .path .now) (c .if4 .taken))
+
+labels-returns-5 : (t : ℕ) → labels-lts.Need-returns-5 (labels-calls t) (labels-at t) labels.Post
+labels-returns-5 t c =
+    let p = c .before .before .before .before .before .before .before .before .before .before .before .before .before .args .pattern .now in
+    let s = c .before .before .before .before .before .before .before .before .before .before .before .before .before .args .path .now in
+    let a = c .before .before .before .before .before .before .before .before .before .label-end in
+    let b = c .before .before .before .before .label-end2 in
+    let k = fitLabels (labelsOf (back p (a .result))) in
+    rw (one-law p (a .result) (a .ensures) (sym (c .before .before .before .before .before .before .before .is-deep .ensures) ∙ c .before .before .before .before .before .before .if3 .left))
+    (first-not (fitsLabel (front p (a .result))) k s (b .result) (b .ensures) (sym (c .before .label-fits .ensures) ∙ not-true _ (c .if5 .taken)))
+
+-- the first label fits: what is said of the others is so of all
+labels-says : (t : ℕ) (c : labels-lts.After-labels (labels-calls t) (labels-at t) labels.Post) → Says (fitLabels (labelsOf (c .before .before .before .before .before .before .before .before .before .before .before .before .before .before .before .before .args .pattern .now))) (labelsOf (c .before .before .before .before .before .before .before .before .before .before .before .before .before .before .before .before .args .path .now)) (c .labels .result)
+labels-says t c =
+    let p = c .before .before .before .before .before .before .before .before .before .before .before .before .before .before .before .before .args .pattern .now in
+    let s = c .before .before .before .before .before .before .before .before .before .before .before .before .before .before .before .before .args .path .now in
+    let a = c .before .before .before .before .before .before .before .before .before .before .before .before .label-end in
+    let b = c .before .before .before .before .before .before .before .label-end2 in
+    let k = fitLabels (labelsOf (back p (a .result))) in
+    let law = one-law p (a .result) (a .ensures) (sym (c .before .before .before .before .before .before .before .before .before .before .is-deep .ensures) ∙ c .before .before .before .before .before .before .before .before .before .if3 .left) in
+    subst (λ (g : List (List ℕ) → Bool). Says g (labelsOf s) (c .labels .result)) (sym law)
+    (first-cut (fitsLabel (front p (a .result))) k s (b .result) (c .labels .result) (b .ensures) (sym (c .before .before .before .before .label-fits .ensures) ∙ not-false _ (c .before .before .before .if5 .left)) (c .labels .ensures))
+
+labels-returns-6 : (t : ℕ) → labels-lts.Need-returns-6 (labels-calls t) (labels-at t) labels.Post
+labels-returns-6 t c = subst (Says (fitLabels (labelsOf (c .before .before .before .before .before .before .before .before .before .before .before .before .before .before .before .before .before .before .args .pattern .now))) (labelsOf (c .before .before .before .before .before .before .before .before .before .before .before .before .before .before .before .before .before .before .args .path .now))) (c .enum-told .given .1) (labels-says t (c .before .before))
+
+labels-returns-7 : (t : ℕ) → labels-lts.Need-returns-7 (labels-calls t) (labels-at t) labels.Post
+labels-returns-7 t c = subst (Says (fitLabels (labelsOf (c .before .before .before .before .before .before .before .before .before .before .before .before .before .before .before .before .before .before .args .pattern .now))) (labelsOf (c .before .before .before .before .before .before .before .before .before .before .before .before .before .before .before .before .before .before .args .path .now))) (c .enum-told2 .given .1) (labels-says t (c .before .before))
+
+labels-returns-8 : (t : ℕ) → labels-lts.Need-returns-8 (labels-calls t) (labels-at t) labels.Post
+labels-returns-8 t c = subst (Says (fitLabels (labelsOf (c .before .before .before .before .before .before .before .before .before .before .before .before .before .before .before .before .before .before .args .pattern .now))) (labelsOf (c .before .before .before .before .before .before .before .before .before .before .before .before .before .before .before .before .before .before .args .path .now))) (c .enum-told3 .given .1) (labels-says t (c .before .before))
+
+pub +descend+labels-spec : {M : Type 1} → statement M
++descend+labels-spec = close μ-descend μ-labels (λ t. descend-lts.spec (descend-calls t)
+    (descend-at t)
+    descend.Post
+    descend-Inv-loop
+    descend-μ-loop
+    (descend-loop-holds t)
+    (λ c. search needs)
+    (λ c. search needs)
+    (λ c. search needs)
+    (λ c κs. search needs)
+    (λ c. search needs)
+    (λ c. search needs)
+    (λ c. search needs)
+    (λ c. search needs)
+    (λ c κs. search needs)
+    (λ c. search needs)
+    (descend-returns t)
+    (λ c. search needs)
+    (descend-returns-2 t)
+    (λ c. search needs)
+    (λ c. search needs)
+    (descend-loop-again t)
+    (λ c. search needs)
+    (λ c. search needs)
+    (λ c. search needs)
+    (λ c κs. search needs)
+    (descend-returns-3 t))
+    λ t. labels-lts.spec (labels-calls t)
+    (labels-at t)
+    labels.Post
+    (labels-returns t)
+    (labels-returns-2 t)
+    (λ c κs. search needs)
+    (λ c. search needs)
+    (λ c. search needs)
+    (λ c. search needs)
+    (λ c κs. search needs)
+    (λ c. search needs)
+    (λ c. search needs)
+    (λ c. search needs)
+    (λ c κs. search needs)
+    (labels-returns-3 t)
+    (labels-returns-4 t)
+    (λ c κs. search needs)
+    (λ c. search needs)
+    (λ c. search needs)
+    (λ c. search needs)
+    (λ c. search needs)
+    (λ c. search needs)
+    (λ c. search needs)
+    (λ c κs. search needs)
+    (labels-returns-5 t)
+    (λ c. search needs)
+    (λ c. search needs)
+    (λ c. search needs)
+    (λ c. search needs)
+    (λ c. search needs)
+    (λ c. search needs)
+    (λ c κs. search needs)
+    (λ c. search needs)
+    (λ c. search needs)
+    (λ c. search needs)
+    (labels-returns-6 t)
+    (labels-returns-7 t)
+    (labels-returns-8 t)

@@ -1,0 +1,52 @@
+// Can labels, of which the last may go on, fit a pattern?
+use crate::bytes::STAR;
+use crate::fit::label_fits;
+use crate::split::is_deep;
+use crate::split::label_end;
+ghost use mathlib.Core.Path.{_≡_};
+ghost use Rattle.glob.specs.Labels.{labelsOf, Begun};
+ghost use Rattle.glob.specs.Begins.{beginsLabel, beginsLabels};
+
+// Can a label that begins with k fit a label of a pattern?
+fn label_begins(p: &[u8], k: &[u8]) -> bool
+    ensures { λ r. ⌜ r ≡ beginsLabel (now (p .entry)) (now (k .entry)) ⌝ }
+{
+    if p.len() == 0 {
+        return k.len() == 0;
+    }
+    if k.len() == 0 {
+        return true;
+    }
+    if p[0] == STAR {
+        return true;
+    }
+    if p[0] == k[0] {
+        return label_begins(&p[1..], &k[1..]);
+    }
+    false
+}
+
+// Can labels, of which the last may go on, fit the pattern that remains?
+pub fn labels_begin(pattern: &[u8], known: &[u8]) -> bool
+    requires { ⌜ Begun (now pattern) × Begun (now known) ⌝ }
+    ensures { λ r. ⌜ r ≡ beginsLabels (labelsOf (now (pattern .entry))) (labelsOf (now (known .entry))) ⌝ }
+{
+    if pattern.len() == 0 {
+        return known.len() == 0;
+    }
+    if known.len() == 0 {
+        return true;
+    }
+    let a = label_end(pattern);
+    let b = label_end(known);
+    if is_deep(&pattern[1..a]) {
+        return true;
+    }
+    if b == known.len() {
+        return label_begins(&pattern[1..a], &known[1..b]);
+    }
+    if label_fits(&pattern[1..a], &known[1..b]) {
+        return labels_begin(&pattern[a..], &known[b..]);
+    }
+    false
+}

@@ -1,0 +1,133 @@
+// Does a path fit a pattern? Calls go deeper only as the pattern gets shorter, so the pattern alone bounds the stack.
+// An answer `Never` stops the wild element before it from trying again, so the time is at most pattern times path.
+use crate::bytes::STAR;
+use crate::split::is_deep;
+use crate::split::label_end;
+use crate::split::label_len;
+ghost use mathlib.Core.Path.{_≡_};
+ghost use Rattle.glob.specs.Labels.{labelsOf, Begun};
+ghost use Rattle.glob.specs.Fit.{afterSome, fitsLabel, fitLabels, fitsPath};
+ghost use Rattle.glob.specs.Inner.{Says, isFit};
+
+// `Never`: it fails now, and also once any of the first bytes (or labels) are taken away.
+pub(crate) enum Trial {
+    Fits,
+    Fails,
+    Never,
+}
+
+fn is_fit(r: Trial) -> bool
+    ensures { λ b. ⌜ b ≡ isFit r ⌝ }
+{
+    match r {
+        Trial::Fits => true,
+        Trial::Fails => false,
+        Trial::Never => false,
+    }
+}
+
+// Tries a label against a label of a pattern.
+fn label(p: &[u8], s: &[u8]) -> Trial
+    ensures { λ r. ⌜ Says (fitsLabel (now (p .entry))) (now (s .entry)) r ⌝ }
+{
+    if p.len() == 0 {
+        if s.len() == 0 {
+            return Trial::Fits;
+        }
+        return Trial::Fails;
+    }
+    if p[0] == STAR {
+        return after_star(&p[1..], s);
+    }
+    if s.len() == 0 {
+        return Trial::Never;
+    }
+    if p[0] == s[0] {
+        return label(&p[1..], &s[1..]);
+    }
+    Trial::Fails
+}
+
+// Tries a label against `*` and the pattern that remains. `*` takes one byte more in each turn.
+fn after_star(p: &[u8], s: &[u8]) -> Trial
+    ensures { λ r. ⌜ Says (afterSome (fitsLabel (now (p .entry)))) (now (s .entry)) r ⌝ }
+{
+    let mut i = 0;
+    while i < s.len() {
+        let r = label(p, &s[i..]);
+        match r {
+            Trial::Fits => return Trial::Fits,
+            Trial::Never => return Trial::Never,
+            Trial::Fails => {
+                i += 1;
+            }
+        }
+    }
+    label(p, &s[i..])
+}
+
+// Does a label fit a label of a pattern?
+pub fn label_fits(p: &[u8], s: &[u8]) -> bool
+    ensures { λ r. ⌜ r ≡ fitsLabel (now (p .entry)) (now (s .entry)) ⌝ }
+{
+    is_fit(label(p, s))
+}
+
+// Label matching: tries the rest of a path against the pattern that remains.
+fn labels(pattern: &[u8], path: &[u8]) -> Trial
+    requires { ⌜ Begun (now pattern) × Begun (now path) ⌝ }
+    ensures { λ r. ⌜ Says (fitLabels (labelsOf (now (pattern .entry)))) (labelsOf (now (path .entry))) r ⌝ }
+{
+    if pattern.len() == 0 {
+        if path.len() == 0 {
+            return Trial::Fits;
+        }
+        return Trial::Fails; // but a `**` before may take more labels
+    }
+    let a = label_end(pattern);
+    if is_deep(&pattern[1..a]) {
+        return descend(&pattern[a..], path);
+    }
+    if path.len() == 0 {
+        return Trial::Never;
+    }
+    let b = label_end(path);
+    if !label_fits(&pattern[1..a], &path[1..b]) {
+        return Trial::Fails; // but a `**` before may take this label and try the next
+    }
+    match labels(&pattern[a..], &path[b..]) {
+        Trial::Fits => Trial::Fits,
+        Trial::Fails => Trial::Fails, // but a `**` before may take this label, though it fits, and try the next
+        Trial::Never => Trial::Never,
+    }
+}
+
+// Descendant matching: tries the rest of a path against `**` and the pattern that remains. `**` takes one label more in each turn.
+fn descend(pattern: &[u8], path: &[u8]) -> Trial
+    requires { ⌜ Begun (now pattern) × Begun (now path) ⌝ }
+    ensures { λ r. ⌜ Says (afterSome (fitLabels (labelsOf (now (pattern .entry))))) (labelsOf (now (path .entry))) r ⌝ }
+{
+    let mut b = 0;
+    while b < path.len() {
+        let next = b + label_end(&path[b..]);
+        let r = labels(pattern, &path[b..]);
+        match r {
+            Trial::Fits => return Trial::Fits,
+            Trial::Never => return Trial::Never,
+            Trial::Fails => {
+                b = next;
+            }
+        }
+    }
+    labels(pattern, &path[b..])
+}
+
+// Do the labels of a path fit those of a pattern? For callers that have checked both once, as the search: nothing is checked again. Of any
+// bytes it answers by their labels, which begin at the first `/`. The stack goes as deep as the pattern has bytes.
+pub fn fits_formed(pattern: &[u8], path: &[u8]) -> bool
+    ensures { λ r. ⌜ r ≡ fitsPath (now (pattern .entry)) (now (path .entry)) ⌝ }
+{
+    let a = label_len(pattern);
+    let b = label_len(path);
+    is_fit(labels(&pattern[a..], &path[b..]))
+}

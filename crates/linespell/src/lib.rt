@@ -1,0 +1,3 @@
+// The spelling of replies and rows as lines of `fieldlog`.
+pub mod sizes;
+pub mod spell;

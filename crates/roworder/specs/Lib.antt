@@ -1,0 +1,6 @@
+pub mod Sizes
+pub mod Entry
+pub mod Order
+pub mod Sorted
+pub mod Records
+pub mod Heap

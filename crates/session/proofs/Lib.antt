@@ -1,0 +1,4 @@
+pub mod Keeping
+pub mod Printing
+pub mod Whole
+pub mod Running

@@ -1,0 +1,4 @@
+pub mod Sizes
+pub mod Printed
+pub mod Keeps
+pub mod Whole

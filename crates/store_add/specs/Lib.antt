@@ -1,0 +1,4 @@
+pub mod Small
+pub mod Placed
+pub mod Checked
+pub mod Ready
