@@ -31,7 +31,7 @@ pub(crate) fn search_tries(
     let mut rows: usize = 0;
     let mut nodes: usize = 0;
     let mut k: usize = 0;
-    while k < l {
+    while k <= l {
         let part = trie_part(store, m, l, k);
         let from = part.from;
         let to = part.to;
