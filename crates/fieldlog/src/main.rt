@@ -51,7 +51,8 @@ fn feed(
     requires { ⌜ (length (now line) ≡ lineLimit) × (length (now store) ≡ storeSize) × (length (now answer) ≡ answerSize) × (length (now out) ≡ printLimit) ⌝ }
 {
     let pushed = logline::lines::push(Feed { len }, line, byte);
-    carry_out(pushed.event, line, store, answer, out);
+    let event = pushed.event;
+    carry_out(event, line, store, answer, out);
     let next = pushed.feed;
     next.len
 }
@@ -75,30 +76,36 @@ fn feed_chunk(
     len
 }
 
+// Reads until the input ends, and carries out its lines; returns how many bytes the last one has that lacks its end.
+fn feed_all(
+    line: &mut [u8],
+    chunk: &mut [u8],
+    store: &mut [u8],
+    answer: &mut [u8],
+    out: &mut [u8],
+) -> usize
+    requires { ⌜ (length (now line) ≡ lineLimit) × (length (now store) ≡ storeSize) × (length (now answer) ≡ answerSize) × (length (now out) ≡ printLimit) ⌝ }
+{
+    let mut len: usize = 0;
+    let mut reads: u64 = 0;
+    while reads < READS {
+        let n = io::count(libc::read(0, chunk), chunk);
+        if n == 0 {
+            return len;
+        }
+        len = feed_chunk(len, line, &chunk[0..n], store, answer, out);
+        reads += 1;
+    }
+    len
+}
+
 fn main() {
     let mut store = [0u8; STORE_SIZE];
     let mut answer = [0u8; ANSWER_SIZE];
     let mut out = [0u8; PRINT_LIMIT];
     let mut line = [0u8; LINE_LIMIT];
     let mut chunk = [0u8; 4096];
-    let mut len: usize = 0;
-    let mut reads: u64 = 0;
-    while reads < READS {
-        let n = io::count(libc::read(0, &mut chunk), &chunk);
-        if n == 0 {
-            reads = READS;
-        } else {
-            len = feed_chunk(
-                len,
-                &mut line,
-                &chunk[0..n],
-                &mut store,
-                &mut answer,
-                &mut out,
-            );
-            reads += 1;
-        }
-    }
+    let len = feed_all(&mut line, &mut chunk, &mut store, &mut answer, &mut out);
     let event = logline::lines::finish(Feed { len });
     carry_out(event, &line, &mut store, &mut answer, &mut out);
 }

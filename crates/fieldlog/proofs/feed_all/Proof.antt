@@ -1,0 +1,45 @@
+-- Each buffer keeps its length. Assumes nothing.
+use Prim.Native.Nat.{_≤_, _-_}
+use mathlib.Core.Path.{_≡_}
+use lib.ListN.{length}
+use borrow.Author.Needs.{needs}
+use Rattle.logline.specs.Sizes.{lineLimit}
+use Rattle.session.specs.Sizes.{storeSize, answerSize, printLimit}
+use Rattle.fieldlog.proofs.feed_all.Statement.{statement}
+use Rattle.fieldlog.proofs.feed_all.Tie as tie
+
+abbrev Inv-loop : tie.InvT-loop
+Inv-loop line₀ chunk₀ store₀ answer₀ out₀ len₀ reads₀ line chunk store answer out len reads =
+    (reads ≤ 18446744073709551615) × (length chunk ≡ length chunk₀) × (length line ≡ lineLimit) × (length store ≡ storeSize) × (length answer ≡ answerSize) × (length out ≡ printLimit)
+
+abbrev μ-loop : tie.MeasureT-loop
+μ-loop line₀ chunk₀ store₀ answer₀ out₀ len₀ reads₀ line chunk store answer out len reads = 18446744073709551615 - reads
+
+pub feed-all-spec : {M : Type 1} → statement M
+feed-all-spec =
+    tie.close
+    (tie.spec
+    Inv-loop
+    μ-loop
+    (λ c. search needs)
+    (λ c κs. search needs)
+    (λ c κs. search needs)
+    (λ c. search needs)
+    (λ c. search needs)
+    (λ c. search needs)
+    (λ c. search needs)
+    (λ c. search needs)
+    (λ c. search needs)
+    (λ c. search needs)
+    (λ c. search needs)
+    (λ c. search needs)
+    (λ c κs. search needs)
+    (λ c. search needs)
+    (λ c. search needs)
+    (λ c. search needs)
+    (λ c. search needs)
+    (λ c. search needs)
+    (λ c. search needs)
+    (λ c. search needs)
+    (λ c. search needs)
+    (λ c. search needs))
