@@ -7,6 +7,7 @@ use native.Mathlib.Omega.{arith}
 use lib.ListN.{length, length-append, length-map}
 use Rattle.buffer.specs.Lists.{All, pick}
 use Rattle.buffer.proofs.Lists.{pick-append, map-append}
+use Rattle.glob.proofs.Parts.{no-items}
 use Rattle.rows.specs.Sizes.{nodeLimit}
 use Rattle.trie_theory.specs.Forest.{Strings, Key, Forest, none, leaf, inner, join, under, keys}
 use Rattle.trie_theory.specs.Size.{height}
@@ -151,10 +152,6 @@ length-below n way k (inner d s kids more) =
       length-below n way k more,
     )
 
-empty : {A : Type 0} (xs : List A) → length xs ≡ 0 → xs ≡ []
-empty [] e = refl
-empty (x ∷ xs) e = absurd (omega arith)
-
 -- behind strings that are too long
 pub long-records : {kind n : ℕ} {way : List ℕ} {k : Strings} {t : List ℕ} → Long k → (rs : List (List ℕ)) → BodyRecords kind n way k t rs → rs ≡ []
 long-records {kind} {n} {way} {k} h rs b =
@@ -164,7 +161,7 @@ long-records {kind} {n} {way} {k} h rs b =
     (λ (z : kind ≡ 0 → ⊥). let s = b .inner z in
     let none-has = long-body {kind = kind} {depth = height (s .tries)} h (pick hasSlot (keys k (s .tries)))
     record { leaf = λ y. absurd (z y); inner = λ y. record { tries = s .tries; regular = s .regular; high = omega arith; bytes = s .bytes; is = refl } } in
-    s .is ∙ empty (recordsBelow n way k (s .tries)) (length-below n way k (s .tries) ∙ ap length none-has))
+    s .is ∙ no-items (recordsBelow n way k (s .tries)) (length-below n way k (s .tries) ∙ ap length none-has))
     (same? kind 0)
 
 -- where no node is left to enter
