@@ -1,0 +1,129 @@
+//! The index through its exported calls.
+
+use crate::data::{Entry, Query};
+
+#[repr(C)]
+struct Reply {
+    number: u32,
+    first: u64,
+    second: u64,
+}
+
+extern "C" {
+    fn nivruska_setup(store: *mut u8, store_len: usize, m: u64, l: u64, tau: u64) -> Reply;
+    fn nivruska_add(
+        store: *mut u8,
+        store_len: usize,
+        path: *const u8,
+        path_len: usize,
+        value: u64,
+        reference: *const u8,
+        reference_len: usize,
+    ) -> Reply;
+    fn nivruska_search(
+        store: *const u8,
+        store_len: usize,
+        pattern: *const u8,
+        pattern_len: usize,
+        low: u64,
+        high: u64,
+        answer: *mut u8,
+        answer_len: usize,
+    ) -> Reply;
+}
+
+/// docs/STORE-FORMAT.md: where the small trie begins, and a node's bytes before its strings.
+const TRIES_AT: usize = 4096;
+const HEAD: usize = 7;
+
+#[derive(Clone, Copy)]
+pub struct Numbers {
+    pub m: usize,
+    pub l: usize,
+    pub tau: usize,
+}
+
+impl Numbers {
+    /// M 256 where its largest store holds n entries, else 1,024; the smallest L.
+    pub fn for_entries(n: usize, tau: usize) -> Numbers {
+        let m = if n < 256 << 8 { 256 } else { 1024 };
+        let l = (1..=8).find(|&l| n < m << l).expect("a store for so many entries");
+        Numbers { m, l, tau }
+    }
+
+    pub fn need(&self) -> usize {
+        TRIES_AT + ((1024 * self.m) << self.l)
+    }
+}
+
+pub struct Store {
+    numbers: Numbers,
+    bytes: Vec<u8>,
+}
+
+impl Store {
+    pub fn new(numbers: Numbers) -> Store {
+        Store { numbers, bytes: vec![0; numbers.need()] }
+    }
+
+    pub fn setup(&mut self) {
+        let Numbers { m, l, tau } = self.numbers;
+        let reply = unsafe { nivruska_setup(self.bytes.as_mut_ptr(), self.bytes.len(), m as u64, l as u64, tau as u64) };
+        assert_eq!(reply.number, 0, "a setup turned down");
+    }
+
+    pub fn add(&mut self, entry: &Entry) {
+        let (store, path, reference) = (&mut self.bytes, &entry.path, &entry.reference);
+        let reply = unsafe {
+            nivruska_add(store.as_mut_ptr(), store.len(), path.as_ptr(), path.len(), entry.value, reference.as_ptr(), reference.len())
+        };
+        assert_eq!(reply.number, 0, "an addition turned down");
+    }
+
+    /// Rows and nodes entered.
+    pub fn search(&self, query: &Query, answer: &mut [u8]) -> (usize, u64) {
+        let (store, pattern) = (&self.bytes, &query.pattern);
+        let reply = unsafe {
+            nivruska_search(
+                store.as_ptr(),
+                store.len(),
+                pattern.as_ptr(),
+                pattern.len(),
+                query.low,
+                query.high,
+                answer.as_mut_ptr(),
+                answer.len(),
+            )
+        };
+        assert_eq!(reply.number, 0, "a search turned down");
+        (reply.first as usize, reply.second)
+    }
+
+    /// All nodes of all tries, read from the store's bytes.
+    pub fn nodes(&self) -> u64 {
+        let small = 1024 * self.numbers.m;
+        let levels = (0..self.numbers.l).map(|i| TRIES_AT + (small << i));
+        std::iter::once(TRIES_AT).chain(levels).map(|at| trie_nodes(&self.bytes[at..])).sum()
+    }
+}
+
+fn body_length(node: &[u8]) -> usize {
+    u32::from_be_bytes(node[3..HEAD].try_into().expect("four bytes")) as usize
+}
+
+/// A trie is its nodes in pre-order: behind an inner node's strings stands its first child, behind a leaf the next node.
+fn trie_nodes(trie: &[u8]) -> u64 {
+    let strings = |node: &[u8]| HEAD + node[1] as usize + node[2] as usize;
+    if body_length(trie) == 0 {
+        return 0;
+    }
+    let end = strings(trie) + body_length(trie);
+    let (mut at, mut count) = (0, 0);
+    while at < end {
+        let node = &trie[at..];
+        let is_leaf = node[0] == 0;
+        at += strings(node) + if is_leaf { body_length(node) } else { 0 };
+        count += 1;
+    }
+    count
+}
