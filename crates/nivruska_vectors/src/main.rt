@@ -6,6 +6,7 @@ use linespell::spell::spell_row;
 use logline::sizes::REPLY_LIMIT;
 use logline::sizes::ROW_LINE_LIMIT;
 use rows::sizes::LENGTH_AT;
+use rows::sizes::NODE_LIMIT;
 use rows::sizes::PATH_AT;
 use rows::sizes::PATH_LIMIT;
 use rows::sizes::RECORD_SIZE;
@@ -75,7 +76,7 @@ fn add_rows(store: &mut [u8]) {
 fn print_node(bytes: &[u8], i: usize)
     requires { ⌜ length (now bytes) ≡ recordSize ⌝ }
 {
-    if i < 210 {
+    if i < NODE_LIMIT {
         let at = NODES_AT + NODE_SIZE * i;
         print_numbers(wide(bytes[at]), wide(bytes[at + 1]), wide(bytes[at + 2]));
     }
