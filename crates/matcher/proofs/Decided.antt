@@ -2,7 +2,7 @@
 use mathlib.Core.Path.{_≡_, refl, sym, ap, ap₂, subst, _∙_}
 use mathlib.Core.List.{List, [], _∷_, _++_, append-assoc, append-nil}
 use mathlib.Core.Bool.{Bool, true, false, not, cond, _&&_}
-use Prim.Native.Nat.{ℕ, suc, _-_, _<_, _≤_}
+use Prim.Native.Nat.{ℕ, suc, _-_, _≤_}
 use native.Mathlib.Omega.{arith}
 use lib.ListN.{length, take, drop-of-length-le}
 use lib.Seq.{split-at}
@@ -10,7 +10,8 @@ use lib.Dec.{eqb}
 use borrow.Author.Tests.{eq-eqb, ne-eqb, eqb-true}
 use Rattle.buffer.specs.Lists.{none, all}
 use Rattle.matcher.specs.Bytes.{slash, star, endByte, labelByte}
-use Rattle.matcher.specs.Labels.{labelsOf, Begun}
+use Rattle.glob.specs.Inner.{Begun}
+use Rattle.matcher.specs.Labels.{labelsOf}
 use Rattle.matcher.specs.Form.{apart, pathLabel, patternLabel, formedPath, formedPattern, pathForm, patternForm, isFine}
 use Rattle.matcher.specs.Fit.{fit, fitLabels, fitsPath}
 use Rattle.matcher.specs.Matches.{matches}

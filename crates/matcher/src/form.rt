@@ -7,13 +7,14 @@ use crate::bytes::label_byte;
 use glob::split::byte_at;
 use glob::split::is_deep;
 use glob::split::label_count;
-use glob::split::label_end;
+use glob::split::next_slash;
 ghost use mathlib.Core.Path.{_≡_};
 ghost use mathlib.Core.Bool.{not, cond};
 ghost use lib.Dec.{eqb};
 ghost use Rattle.buffer.specs.Lists.{all};
 ghost use Rattle.matcher.specs.Bytes.{labelByte};
-ghost use Rattle.matcher.specs.Labels.{labelsOf, Begun};
+ghost use Rattle.glob.specs.Inner.{Begun};
+ghost use Rattle.matcher.specs.Labels.{labelsOf};
 ghost use Rattle.matcher.specs.Form.{apart, patternLabel, formedPath, formedPattern, pathForm, patternForm, isFine, pathNumber, patternNumber};
 ghost use Rattle.matcher.specs.Reach.{beginsPath};
 
@@ -141,7 +142,7 @@ fn are_pattern_labels(pattern: &[u8]) -> bool
     if pattern.len() == 0 {
         return true;
     }
-    let a = label_end(pattern);
+    let a = next_slash(pattern, 1);
     if is_pattern_label(&pattern[1..a]) {
         return are_pattern_labels(&pattern[a..]);
     }

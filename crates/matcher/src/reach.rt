@@ -4,9 +4,8 @@ use crate::form::begins_path;
 use crate::form::check_pattern;
 use crate::form::is_fine;
 use crate::form::is_path;
-use glob::begin::labels_begin;
+use glob::begin::begins_formed;
 use glob::fit::fits_formed;
-use glob::split::label_len;
 ghost use mathlib.Core.Path.{_≡_};
 ghost use mathlib.Core.Bool.{true};
 ghost use Rattle.matcher.specs.Form.{patternForm, isFine};
@@ -29,7 +28,7 @@ fn reach_whole(pattern: &[u8], path: &[u8]) -> Answer
     if fits_formed(pattern, path) {
         return Answer::Match;
     }
-    Answer::Mismatch
+    Answer::Mismatch // a path that does not fit
 }
 
 // The path goes on.
@@ -39,8 +38,7 @@ fn reach_open(pattern: &[u8], known: &[u8]) -> Answer
     if !begins_path(known) {
         return Answer::Mismatch;
     }
-    let a = label_len(pattern);
-    if labels_begin(&pattern[a..], known) {
+    if begins_formed(pattern, known) {
         return Answer::Incomplete;
     }
     Answer::Mismatch // however the path goes on
