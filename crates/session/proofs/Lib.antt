@@ -3,3 +3,4 @@ pub mod Enough
 pub mod Printing
 pub mod Whole
 pub mod Running
+pub mod Feeding

@@ -53,10 +53,15 @@ next b (addition value reference path) = step b (addCall (entry value reference 
 next b (searching low high pattern) = b
 next b misread = b
 
--- .. for lines one after another, and for an input
-unfoldable pub printedAll : Book → List (List ℕ) → List ℕ
+-- .. for lines one after another
+unfoldable pub printedAll : Book → List Meaning → List ℕ
 printedAll b [] = []
-printedAll b (l ∷ ls) = printed b (meaning l) ++ printedAll (next b (meaning l)) ls
+printedAll b (m ∷ ms) = printed b m ++ printedAll (next b m) ms
 
-abbrev pub output : List ℕ → List ℕ
-output input = printedAll blank (linesOf input)
+unfoldable pub nextAll : Book → List Meaning → Book
+nextAll b [] = b
+nextAll b (m ∷ ms) = nextAll (next b m) ms
+
+-- THE OUTPUT for an input: what its lines print, one after another, from a store that is all zero on
+unfoldable pub output : List ℕ → List ℕ
+output input = printedAll blank (map meaning (linesOf input))
