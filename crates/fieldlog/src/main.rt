@@ -1,62 +1,29 @@
 // `fieldlog`: carries out the lines of standard input on a store of its own, and prints. All that matters stands in the crates `logline` and `session`;
 // here bytes are only read and written. A line is carried out as soon as its end has been read, however the input arrives.
-use logline::lines::Event;
-use logline::lines::Feed;
 use logline::sizes::LINE_LIMIT;
+use session::feed::feed_byte;
+use session::feed::feed_end;
 use session::sizes::ANSWER_SIZE;
 use session::sizes::PRINT_LIMIT;
 use session::sizes::STORE_SIZE;
 ghost use mathlib.Core.Path.{_≡_};
+ghost use Prim.Native.Nat.{_≤_};
 ghost use lib.ListN.{length};
 ghost use Rattle.logline.specs.Sizes.{lineLimit};
 ghost use Rattle.session.specs.Sizes.{storeSize, answerSize, printLimit};
+ghost use Rattle.session.specs.Keeps.{state};
+ghost use Rattle.session.specs.Whole.{FedBytes};
 
 // More reads than any input needs: the loop has to end.
 const READS: u64 = 18446744073709551615;
 
-fn print_front(out: &[u8], n: usize) {
-    if n <= out.len() {
-        io::write_all(1, &out[0..n]);
-    }
-}
-
-// Carries out what a byte, or the end of the input, completes.
-fn carry_out(event: Event, line: &[u8], store: &mut [u8], answer: &mut [u8], out: &mut [u8])
-    requires { ⌜ (length (now store) ≡ storeSize) × (length (now answer) ≡ answerSize) × (length (now out) ≡ printLimit) ⌝ }
+fn print_front(out: &[u8], n: usize)
+    requires { ⌜ n ≤ length (now out) ⌝ }
 {
-    match event {
-        Event::Nothing => {}
-        Event::Line(n) => {
-            if n <= line.len() {
-                let m = session::run::run_line(&line[0..n], store, answer, out);
-                print_front(out, m);
-            }
-        }
-        Event::Long => {
-            let m = session::run::run_long(store, out);
-            print_front(out, m);
-        }
-    }
+    io::write_all(1, &out[0..n]);
 }
 
-// Feeds one byte; returns how many bytes the line then has.
-fn feed(
-    len: usize,
-    line: &mut [u8],
-    byte: u8,
-    store: &mut [u8],
-    answer: &mut [u8],
-    out: &mut [u8],
-) -> usize
-    requires { ⌜ (length (now line) ≡ lineLimit) × (length (now store) ≡ storeSize) × (length (now answer) ≡ answerSize) × (length (now out) ≡ printLimit) ⌝ }
-{
-    let pushed = logline::lines::push(Feed { len }, line, byte);
-    let event = pushed.event;
-    carry_out(event, line, store, answer, out);
-    let next = pushed.feed;
-    next.len
-}
-
+// Feeds the bytes of a chunk in turn, and prints what each completes; returns how many bytes the line then has.
 fn feed_chunk(
     start: usize,
     line: &mut [u8],
@@ -66,17 +33,21 @@ fn feed_chunk(
     out: &mut [u8],
 ) -> usize
     requires { ⌜ (length (now line) ≡ lineLimit) × (length (now store) ≡ storeSize) × (length (now answer) ≡ answerSize) × (length (now out) ≡ printLimit) ⌝ }
+    ensures { λ r.
+        ⌜ FedBytes (state start (now (line .entry)) (now (store .entry))) (now (chunk .entry)) (state r (now (line .exit)) (now (store .exit))) ⌝ }
 {
     let mut len = start;
     let mut i: usize = 0;
     while i < chunk.len() {
-        len = feed(len, line, chunk[i], store, answer, out);
+        let fed = feed_byte(len, line, chunk[i], store, answer, out);
+        print_front(out, fed.printed);
+        len = fed.len;
         i += 1;
     }
     len
 }
 
-// Reads until the input ends, and carries out its lines; returns how many bytes the last one has that lacks its end.
+// Reads until the input ends, and feeds what comes; returns how many bytes the last line has that lacks its end.
 fn feed_all(
     line: &mut [u8],
     chunk: &mut [u8],
@@ -106,6 +77,6 @@ fn main() {
     let mut line = [0u8; LINE_LIMIT];
     let mut chunk = [0u8; 4096];
     let len = feed_all(&mut line, &mut chunk, &mut store, &mut answer, &mut out);
-    let event = logline::lines::finish(Feed { len });
-    carry_out(event, &line, &mut store, &mut answer, &mut out);
+    let n = feed_end(len, &line, &mut store, &mut answer, &mut out);
+    print_front(&out, n);
 }

@@ -11,7 +11,7 @@ use lib.Dec.{leb, eqb}
 use borrow.Author.Tests.{leb-true, leb-false, le-leb, lt-leb, eq-eqb, ne-eqb, lt-ltb, le-ltb}
 use Rattle.buffer.specs.Lists.{none}
 use Rattle.buffer.proofs.Splice.{set-splice}
-use Rattle.linecut.specs.Input.{linesFrom, linesOf, Given, given, begunAfter, onByte, onEnd, Holds, told, eventOf, Fed, Runs, pushedEvent, pushedLen, pushedBuffer, PushedAs, finishedEvent}
+use Rattle.linecut.specs.Input.{linesFrom, linesOf, Given, given, begunAfter, onByte, onEnd, Holds, told, Within, eventOf, Fed, Runs, pushedEvent, pushedLen, pushedBuffer, PushedAs, finishedEvent}
 use Rattle.linecut.specs.Input.Runs.{finishes, pushes}
 use Rattle.linecut.specs.Input.Given.{whole, tooLong}
 use Rattle.linecut.specs.declared.lines.Event.{Event}
@@ -20,11 +20,11 @@ use Rattle.linecut.specs.declared.lines.Event.the-variants.{Nothing, Lin
 -- ---- what is fed is handed over line by line
 
 -- what is handed over for the rest s of an input
-unfoldable fed : List ℕ → List ℕ → List Given
+unfoldable pub fed : List ℕ → List ℕ → List Given
 fed begun [] = onEnd begun
 fed begun (b ∷ s) = onByte begun b ++ fed (begunAfter begun b) s
 
-fed-lines : (s begun : List ℕ) → fed begun s ≡ map given (linesFrom begun s)
+pub fed-lines : (s begun : List ℕ) → fed begun s ≡ map given (linesFrom begun s)
 unfolding fed linesFrom onByte onEnd begunAfter
 fed-lines [] begun = go (none begun)
   where
@@ -151,3 +151,29 @@ finished-none len e = rw (eq-eqb len 0 e)
 pub finished-line : (len : ℕ) → (len ≡ 0 → ⊥) → eventOf len ≡ finishedEvent len
 unfolding finishedEvent
 finished-line len n = rw (ne-eqb len 0 n)
+
+-- a line that is told of is in the buffer
+module _ (len size : ℕ) (h : size ≡ 512) where
+  event-within : Within (eventOf len) size
+  unfolding eventOf
+  event-within = go (leb len 512) refl
+    where
+      go : (t : Bool) → leb len 512 ≡ t → Within (cond t (Line len) Long) size
+      go true e = omega (arith, leb-true len 512 e)
+      go false e = tt
+
+  pub pushed-within : (b : ℕ) → Within (pushedEvent len b) size
+  unfolding pushedEvent
+  pushed-within b = go (eqb b 10)
+    where
+      go : (t : Bool) → Within (cond t (eventOf len) Nothing) size
+      go true = event-within
+      go false = tt
+
+  pub finished-within : Within (finishedEvent len) size
+  unfolding finishedEvent
+  finished-within = go (eqb len 0)
+    where
+      go : (t : Bool) → Within (cond t Nothing (eventOf len)) size
+      go true = tt
+      go false = event-within

@@ -74,6 +74,12 @@ told Nothing buf = []
 told (Line n) buf = whole (take n buf) ∷ []
 told Long buf = tooLong ∷ []
 
+-- .. a line that it tells of is in a buffer of this length
+abbrev pub Within : Event → ℕ → Type 0
+Within Nothing size = Unit {0}
+Within (Line n) size = n ≤ size
+Within Long size = Unit {0}
+
 -- one byte b was fed into the line that is begun: what is told, and what is held now
 pub record Fed (begun : List ℕ) (b : ℕ) (event : Event) (len : ℕ) (buf : List ℕ) : Type 0 where
   pub tells : told event buf ≡ onByte begun b

@@ -4,11 +4,11 @@ use Prim.Native.Nat.{ℕ, zero, suc, _+_, _-_, _/_, _%_, _≤_}
 use mathlib.Core.Path.{_≡_}
 use mathlib.Core.List.{List, [], _∷_, _++_}
 use mathlib.Core.Bool.{cond}
-use lib.ListN.{length, getD}
+use lib.ListN.{length}
 use lib.Dec.{ltb}
-use Rattle.linespell.specs.Sizes.{valueSize, referenceSize, referenceAt, lengthAt, pathAt, decimalDigits}
-use Rattle.buffer.specs.Splice.{splice, region}
-use Rattle.buffer.specs.Numbers.{number}
+use Rattle.linespell.specs.Sizes.{decimalDigits}
+use Rattle.buffer.specs.Splice.{splice}
+use Rattle.rows.specs.Entry.{Entry, entryOf}
 
 -- n in decimal, in at most k + 1 digits, without leading zeros
 unfoldable pub decimalIn : ℕ → ℕ → List ℕ
@@ -32,10 +32,14 @@ hex (b ∷ s) = glyph (b / 16) ∷ glyph (b % 16) ∷ hex s
 unfoldable pub reply : ℕ → ℕ → ℕ → List ℕ
 reply n first second = (61 ∷ 44 ∷ []) ++ (decimal n ++ ((44 ∷ []) ++ (decimal first ++ ((44 ∷ []) ++ (decimal second ++ (10 ∷ []))))))
 
--- `-,value,reference,path` of a row of 229 bytes: value 8, reference 20, path length 1, path with zeros to 200
-unfoldable pub rowLine : List ℕ → List ℕ
-rowLine row =
-    (45 ∷ 44 ∷ []) ++ (decimal (number (region row 0 valueSize)) ++ ((44 ∷ []) ++ (hex (region row referenceAt referenceSize) ++ ((44 ∷ []) ++ (region row pathAt (getD row lengthAt 0) ++ (10 ∷ []))))))
+-- `-,value,reference,path`
+unfoldable pub entryLine : Entry → List ℕ
+entryLine e =
+    (45 ∷ 44 ∷ []) ++ (decimal (e .value) ++ ((44 ∷ []) ++ (hex (e .reference) ++ ((44 ∷ []) ++ (e .path ++ (10 ∷ []))))))
+
+-- .. of a row of 229 bytes: that of its entry
+abbrev pub rowLine : List ℕ → List ℕ
+rowLine row = entryLine (entryOf row)
 
 -- b was written into s from `at` on and fits there; what was written ends before `next`
 pub record Wrote (s : List ℕ) (at : ℕ) (b after : List ℕ) (next : ℕ) : Type 0 where

@@ -7,6 +7,8 @@ use mathlib.Core.Bool.{Bool, true, false, cond}
 use lib.ListN.{length, take, drop}
 use lib.Dec.{ltb}
 use Rattle.linecut.specs.Sizes.{lineLimit}
+use Rattle.linecut.specs.Input.{Given}
+use Rattle.linecut.specs.Input.Given.{whole, tooLong}
 use Rattle.linefields.specs.Sizes.{referenceDigits}
 use Rattle.buffer.specs.Splice.{region}
 use Rattle.linefields.specs.Fields.{width, only, numberOf, isReference, unhex}
@@ -54,6 +56,11 @@ lineOf s = withField s (λ f r. cond (only 43 f) (additionOf r) (cond (only 63 f
 -- a line over 512 bytes is misread, whatever it holds
 abbrev pub meaning : List ℕ → Meaning
 meaning s = cond (ltb lineLimit (length s)) misread (lineOf s)
+
+-- .. so is one that is handed over without its bytes
+abbrev pub meaningOf : Given → Meaning
+meaningOf (whole l) = meaning l
+meaningOf tooLong = misread
 
 -- ---- a command: the meaning with positions in the line for what it does not hold
 

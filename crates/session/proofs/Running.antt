@@ -1,32 +1,34 @@
 -- A line carried out, from what its call promises and what was written. Assumes nothing.
-use mathlib.Core.Path.{_≡_, refl, sym, ap, subst, _∙_}
+use mathlib.Core.Path.{_≡_, refl, ap, ap₂, subst, _∙_}
 use mathlib.Core.Logic.{_⊎_, inl, inr}
 use mathlib.Core.Bool.{true}
 use Prim.Native.Nat.{ℕ, zero, suc, _+_, _*_, _≤_}
-use mathlib.Core.List.{List, [], _++_, map, map-map}
+use mathlib.Core.List.{List, [], _++_, map}
 use native.Mathlib.Omega.{arith}
-use lib.ListN.{length, replicate, length-replicate}
+use lib.ListN.{length}
 use Rattle.buffer.specs.Lists.{flat}
+use Rattle.buffer.specs.Splice.{splice}
 use Rattle.rows.specs.Sizes.{rowSize}
 use Rattle.rows.specs.Entry.{Entry, row}
 use Rattle.rows.specs.Records.{records}
 use Rattle.entries.specs.Query.{Query}
 use Rattle.book.specs.Front.{frontOf}
-use Rattle.book.specs.Book.{Book}
+use Rattle.book.specs.Book.{Book, front}
 use Rattle.book.specs.Replies.{Reply, reply, Result, result, searchNumber}
 use Rattle.book.specs.Calls.{typed}
-use Rattle.book.specs.Searching.{matching}
-use Rattle.book.specs.Step.{step}
+use Rattle.book.specs.Searching.{matching, nodes}
 use Rattle.book.specs.Promises.{SetsUp, Adds, Searches, Accepted, NoRoom}
+use Rattle.book.proofs.Kept.{matching-fits}
 use Rattle.search.specs.Asked.{asked}
-use Rattle.logline.specs.Meaning.{Meaning, setup, addition, searching, misread}
-use Rattle.logline.specs.Spelling.{rowLine, Wrote}
+use Rattle.logline.specs.Meaning.{setup, addition, searching, misread}
+use Rattle.logline.specs.Spelling.{entryLine, rowLine, Wrote}
 use Rattle.linespell.proofs.Writing.{then}
 use Rattle.session.specs.Sizes.{storeSize, answerSize}
-use Rattle.session.specs.Printed.{entry, setupCall, addCall, searchCall, replyLine, rowLines, searched, printed, next}
+use Rattle.session.specs.Printed.{entry, setupCall, addCall, searchCall, replyLine, searched, printed, next}
 use Rattle.session.specs.Keeps.{Keeps, Ran}
 use Rattle.session.proofs.Keeping.{Kept, kept-setup, kept-add, kept-search, accepted-sound}
-use Rattle.session.proofs.Printing.{reply-alike, rows-there}
+use Rattle.session.proofs.Enough.{accepted, refused}
+use Rattle.session.proofs.Printing.{lines-of-rows}
 
 short : {out b filled : List ℕ} {n : ℕ} → Wrote out 0 b filled n → n ≤ length out
 short w = omega (arith, w .ends, w .room)
@@ -62,16 +64,6 @@ module _ {store after out filled : List ℕ} {r : Reply} {n : ℕ} (lent : lengt
 
 -- ---- a search: the rows that were accepted, and the reply
 
--- the lines of rows, by the number
-refused-lines : (n : ℕ) (es : List Entry) → (n ≡ 0 → ⊥) → rowLines n es ≡ []
-unfolding rowLines
-refused-lines zero es z = absurd (z refl)
-refused-lines (suc n) es z = refl
-
-accepted-lines : (n : ℕ) (es : List Entry) → n ≡ 0 → rowLines n es ≡ flat (map rowLine (map row es))
-unfolding rowLines
-accepted-lines n es z = ap (λ (k : ℕ). rowLines k es) z ∙ ap flat (sym (map-map rowLine row es))
-
 module _ {q : Query} {store answer filled : List ℕ} {r : Reply} (p : Searches q store answer filled r) where
   pub room-there : r .number ≡ 0 → r .first * rowSize ≤ length answer
   room-there z = go (searchNumber (length store) (frontOf store) q) refl
@@ -91,37 +83,55 @@ module _ {low high : ℕ} {pattern store answer filled : List ℕ} {r : Reply} (
   kept : (b : Book) → Keeps store b → Kept b (searchCall (asked pattern low high) answer) (result r filled) store
   kept b h = kept-search store store (result r filled) lent refl b (asked pattern low high) answer (p, refl) h
 
-  same-reply : (b : Book) → Keeps store b → r ≡ step b (searchCall (asked pattern low high) (replicate answerSize 0)) .result .reply
-  same-reply b h =
-      ap (λ (x : Result). x .reply) (kept b h .result)
-      ∙ reply-alike b (asked pattern low high) answer (replicate answerSize 0) (buffer ∙ sym (length-replicate {A = ℕ} answerSize 0))
+  -- refused by a number that is not 0, or accepted with all its rows
+  by-number : (P : List ℕ → Type 0) (b : Book) → Keeps store b → let found = matching (asked pattern low high) (b .entries) in
+      ((k : ℕ) → r ≡ reply (suc k) 0 0 → P (replyLine r))
+      → (r ≡ reply 0 (length found) (nodes (asked pattern low high) b) → filled ≡ splice answer 0 (flat (map row found)) → P (flat (map entryLine found) ++ replyLine r))
+      → P (printed b (searching low high pattern))
+  unfolding printed searched replyLine
+  by-number P b h no-rows rows = go (searchNumber storeSize (front b) q) refl
+    where
+      q : Query
+      q = asked pattern low high
+
+      found : List Entry
+      found = matching q (b .entries)
+
+      go : (k : ℕ) → searchNumber storeSize (front b) q ≡ k → P (searched k found (nodes q b))
+      go zero z =
+          let e = kept b h .result ∙ accepted b q z answer buffer in
+          let a = ap (λ (x : Result). x .reply) e in
+          rw a at (rows a (ap (λ (x : Result). x .answer) e))
+      go (suc k) z =
+          let a = ap (λ (x : Result). x .reply) (kept b h .result ∙ refused b q answer k z) in
+          rw a at (no-rows k a)
 
   pub ran-refused : {out out′ : List ℕ} {n : ℕ} → (r .number ≡ 0 → ⊥) → Wrote out 0 (replyLine r) out′ n → Ran (searching low high pattern) store store out out′ n
-  unfolding printed next
+  unfolding next
   ran-refused {out} {out′} {n} z w =
       record {
         size = refl;
         short = short w;
-        prints = λ b h.
-            subst (λ (x : Reply). Wrote out 0 (searched (matching (asked pattern low high) (b .entries)) x) out′ n) (same-reply b h)
-            (rw (refused-lines (r .number) (matching (asked pattern low high) (b .entries)) z) w);
+        prints = λ b h. by-number (λ text. Wrote out 0 text out′ n) b h (λ k e. w) (λ e f. absurd (z (ap (λ (x : Reply). x .number) e)));
         keeps = λ b h. h;
       }
 
   pub ran-accepted : {out between out′ : List ℕ} {at n : ℕ} → r .number ≡ 0 → Wrote out 0 (flat (map rowLine (records rowSize (r .first) filled))) between at
       → Wrote between at (replyLine r) out′ n → Ran (searching low high pattern) store store out out′ n
-  unfolding printed next
+  unfolding next
   ran-accepted {out} {between} {out′} {at} {n} z a w =
       record {
         size = refl;
         short = short (then a w);
         prints = λ b h.
             (let q = asked pattern low high in
-            let s = accepted-sound store b q answer (result r filled) h (kept b h .result) z in
-            let there = rows-there b q s answer (result r filled) (kept b h .result) z in
-            let es = matching q (b .entries) in
-            let lines : flat (map rowLine (records rowSize (r .first) filled)) ≡ rowLines (r .number) es =
-            ap (λ (rs : List (List ℕ)). flat (map rowLine rs)) (there .are) ∙ sym (accepted-lines (r .number) es z) in
-            subst (λ (x : Reply). Wrote out 0 (searched es x) out′ n) (same-reply b h) (rw lines at (then a w)));
+            let found = matching q (b .entries) in
+            let fit = matching-fits q b (accepted-sound store b q answer (result r filled) h (kept b h .result) z) in
+            by-number (λ text. Wrote out 0 text out′ n) b h
+            (λ k e. let y : r .number ≡ suc k = ap (λ (x : Reply). x .number) e in absurd (omega arith))
+            (λ e f.
+            let lines : flat (map rowLine (records rowSize (r .first) filled)) ≡ flat (map entryLine found) =
+            ap₂ (λ (m : ℕ) (s : List ℕ). flat (map rowLine (records rowSize m s))) (ap (λ (x : Reply). x .first) e) f ∙ lines-of-rows found fit answer in
+            rw lines at (then a w)));
         keeps = λ b h. h;
       }

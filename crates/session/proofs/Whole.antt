@@ -1,45 +1,62 @@
 -- A whole log prints what the definition says. Assumes nothing.
-use mathlib.Core.Path.{_≡_, refl, sym, ap, ap₂, subst, _∙_}
-use mathlib.Core.Bool.{Bool, true, false}
-use Prim.Native.Nat.{ℕ, _+_, _≤_}
-use mathlib.Core.List.{List, [], _∷_, _++_, map}
-use native.Mathlib.Omega.{arith}
-use native.Mathlib.Nat.{zero-add}
-use lib.Dec.{leb, ltb}
-use borrow.Author.Tests.{leb-true, leb-false, le-ltb, lt-ltb}
-use lib.ListN.{length, take, replicate}
-use lib.Seq.{take-at}
-use Rattle.buffer.proofs.Splice.{splice-is}
-use Rattle.logline.specs.Sizes.{lineLimit}
-use Rattle.logline.specs.Meaning.{Meaning, misread, meaning}
-use Rattle.logline.specs.Input.{Given, whole, tooLong, given, linesOf}
-use Rattle.logline.specs.Spelling.{Wrote}
+use mathlib.Core.Path.{_≡_, refl, sym, ap, ap₂, _∙_}
+use Prim.Native.Nat.{ℕ}
+use mathlib.Core.List.{List, [], _∷_, _++_, map, append-assoc}
+use Rattle.buffer.specs.Lists.{flat}
+use Rattle.buffer.proofs.Lists.{map-append}
+use Rattle.logline.specs.Meaning.{Meaning, meaning, meaningOf}
+use Rattle.logline.specs.Input.{Given, given, linesOf, begunAfter, onByte}
+use Rattle.logline.proofs.Feeding.{fed, fed-lines, given-means, holds-start}
 use Rattle.book.specs.Book.{Book, blank}
-use Rattle.session.specs.Sizes.{storeSize}
-use Rattle.session.specs.Printed.{printed, next, printedAll}
-use Rattle.session.specs.Keeps.{Keeps, unused}
-use Rattle.session.specs.Whole.{meaningOf, Carried, done, line, Log-Prints}
+use Rattle.session.specs.Printed.{next, printed, printedAll, nextAll, output}
+use Rattle.session.specs.Keeps.{unused, State, Stands, FedByte}
+use Rattle.session.specs.Whole.{Feeds, none, byte, FedBytes, Prints, ends, chunk, Log-Prints}
 
--- what is handed over for a line means what the line means
-given-means : (l : List ℕ) → meaningOf (given l) ≡ meaning l
-unfolding given
-given-means l = go (leb (length l) lineLimit) refl
-  where
-    go : (w : Bool) → leb (length l) lineLimit ≡ w → meaningOf (given l) ≡ meaning l
-    go true e = rw (e, le-ltb lineLimit (length l) (leb-true (length l) lineLimit e))
-    go false e = rw (e, lt-ltb lineLimit (length l) (leb-false (length l) lineLimit e))
+printed-append : (b : Book) (ms ns : List Meaning) → printedAll b (ms ++ ns) ≡ printedAll b ms ++ printedAll (nextAll b ms) ns
+unfolding printedAll nextAll
+printed-append b [] ns = refl
+printed-append b (m ∷ ms) ns = ap (_++_ (printed b m)) (printed-append (next b m) ms ns) ∙ sym (append-assoc (printed b m) (printedAll (next b m) ms) (printedAll (nextAll (next b m) ms) ns))
 
--- the first bytes of what was written at the beginning
-wrote-first : {out b filled : List ℕ} {n : ℕ} → Wrote out 0 b filled n → take n filled ≡ b
-wrote-first {out} {b} {filled} {n} w = ap (take n) (w .is ∙ splice-is out 0 b) ∙ take-at b _ n (sym (w .ends ∙ zero-add (length b)))
+-- what is printed for the rest of an input, where a line is begun
+says : Book → List ℕ → List ℕ → List ℕ
+says b begun s = printedAll b (map meaningOf (fed begun s))
 
-carried : (ls : List (List ℕ)) (store text : List ℕ) (b : Book) → Keeps store b → Carried store (map given ls) text → text ≡ printedAll b ls
-unfolding printedAll
-carried [] store _ b k done = refl
-carried (l ∷ ls) store _ b k (line {after = after} {text = text} out filled n r rest) =
-    let m : (P : Meaning → Type 0) → P (meaningOf (given l)) → P (meaning l) = λ P. subst P (given-means l) in
-    ap₂ _++_ (wrote-first (m (λ x. Wrote out 0 (printed b x) filled n) (r .prints b k)))
-    (carried ls after text (next b (meaning l)) (m (λ x. Keeps after (next b x)) (r .keeps b k)) rest)
+fed-through : {s after : State} {bytes text : List ℕ} → Feeds s bytes text after → (begun : List ℕ) (b : Book) → Stands s begun b → (more rest : List ℕ)
+    → ((begun : List ℕ) (b : Book) → Stands after begun b → rest ≡ says b begun more) → text ++ rest ≡ says b begun (bytes ++ more)
+unfolding fed says
+fed-through none begun b h more rest f = f begun b h
+fed-through (byte {x = x} {bytes = bytes} {text = text} {rest = others} d r) begun b h more rest f =
+    let ms = map meaningOf (onByte begun x) in
+    let ns = fed (begunAfter begun x) (bytes ++ more) in
+    append-assoc text others rest ∙ ap₂ _++_ (d .prints begun b h) (fed-through r (begunAfter begun x) (nextAll b ms) (d .stands begun b h) more rest f)
+    ∙ sym (ap (printedAll b) (map-append meaningOf (onByte begun x) ns) ∙ printed-append b ms (map meaningOf ns))
+
+chunks-say : {s : State} {chunks : List (List ℕ)} {text : List ℕ} → Prints s chunks text → (begun : List ℕ) (b : Book) → Stands s begun b
+    → text ≡ says b begun (flat chunks)
+unfolding fed says flat
+chunks-say (ends d) begun b h = d .prints begun b h
+chunks-say (chunk {rest = rest} {chunks = chunks} r c) begun b h = fed-through r begun b h (flat chunks) rest (λ begun b h. chunks-say c begun b h)
+
+means-lines : (ls : List (List ℕ)) → map meaningOf (map given ls) ≡ map meaning ls
+means-lines [] = refl
+means-lines (l ∷ ls) = ap₂ _∷_ (given-means l) (means-lines ls)
 
 pub log-prints : Log-Prints
-log-prints input text c = carried (linesOf input) (replicate storeSize 0) text blank (unused refl refl) c
+unfolding says output
+log-prints line chunks text e p =
+    chunks-say p [] blank (record { holds = holds-start line e; keeps = unused refl refl })
+    ∙ ap (printedAll blank) (ap (map meaningOf) (fed-lines (flat chunks) []) ∙ means-lines (linesOf (flat chunks)))
+
+-- ---- bytes fed one after another
+
+snoc : {s between after : State} {bytes text rest : List ℕ} {x : ℕ} → Feeds s bytes text between → FedByte x between after rest
+    → FedBytes s (bytes ++ (x ∷ [])) after
+snoc none d = record { text = _; feeds = byte d none }
+snoc (byte f r) d = let more = snoc r d in record { text = _; feeds = byte f (more .feeds) }
+
+pub fed-none : {s : State} → FedBytes s [] s
+fed-none = record { text = []; feeds = none }
+
+pub fed-more : {s between after : State} {bytes text : List ℕ} {x : ℕ} → FedBytes s bytes between → FedByte x between after text
+    → FedBytes s (bytes ++ (x ∷ [])) after
+fed-more f d = snoc (f .feeds) d

@@ -1,4 +1,5 @@
 pub mod Sizes
 pub mod Printed
+pub mod Enough
 pub mod Keeps
 pub mod Whole

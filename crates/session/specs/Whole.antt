@@ -1,27 +1,36 @@
--- A whole log: its lines one after another, each carried out as promised, and what was printed (proved in proofs/Whole.antt to be the definition's
--- output). Assumes nothing: these are definitions.
+-- A whole log, however its input arrives (proved in proofs/Whole.antt). Assumes nothing: these are definitions.
 use mathlib.Core.Path.{_≡_}
 use Prim.Native.Nat.{ℕ}
-use mathlib.Core.List.{List, [], _∷_, _++_, map}
-use lib.ListN.{take, replicate}
-use Rattle.logline.specs.Meaning.{Meaning, misread, meaning}
-use Rattle.logline.specs.Input.{Given, whole, tooLong, given, linesOf}
+use mathlib.Core.List.{List, [], _∷_, _++_}
+use lib.ListN.{length, replicate}
+use Rattle.buffer.specs.Lists.{flat}
+use Rattle.logline.specs.Sizes.{lineLimit}
 use Rattle.session.specs.Sizes.{storeSize}
 use Rattle.session.specs.Printed.{output}
-use Rattle.session.specs.Keeps.{Ran}
+use Rattle.session.specs.Keeps.{State, state, FedByte, FedEnd}
 
--- a line that is too long is handed over without its bytes
-abbrev pub meaningOf : Given → Meaning
-meaningOf (whole l) = meaning l
-meaningOf tooLong = misread
+-- bytes fed in turn by `feed_byte`, and what was printed for them
+pub data Feeds : State → List ℕ → List ℕ → State → Type 0 where
+  none : {s : State} → Feeds s [] [] s
+  byte :
+      {s between after : State} {x : ℕ} {bytes text rest : List ℕ} → FedByte x s between text → Feeds between bytes rest after →
+      Feeds s (x ∷ bytes) (text ++ rest) after
 
--- lines carried out on a store, and what was printed for them
-pub data Carried : List ℕ → List Given → List ℕ → Type 0 where
-  done : {store : List ℕ} → Carried store [] []
-  line :
-      {store after text : List ℕ} {g : Given} {gs : List Given} (out filled : List ℕ) (n : ℕ) → Ran (meaningOf g) store after out filled n →
-      Carried after gs text → Carried store (g ∷ gs) (take n filled ++ text)
+pub record FedBytes (s : State) (bytes : List ℕ) (after : State) : Type 0 where
+  pub text : List ℕ
+  pub feeds : Feeds s bytes text after
 
--- THE LOG: on memory that is all zero, what is printed for an input is `output`
+-- the chunks of an input, fed in turn, then `feed_end`, and what was printed
+pub data Prints : State → List (List ℕ) → List ℕ → Type 0 where
+  ends : {s : State} {text : List ℕ} → FedEnd s text → Prints s [] text
+  chunk :
+      {s between : State} {bytes text rest : List ℕ} {chunks : List (List ℕ)} → Feeds s bytes text between → Prints between chunks rest →
+      Prints s (bytes ∷ chunks) (text ++ rest)
+
+-- a store of 65,536 bytes, all zero, and no line begun
+abbrev pub start : List ℕ → State
+start line = state 0 line (replicate storeSize 0)
+
+-- THE LOG: whatever the input and however it is cut into chunks, what is printed is `output` of the input
 abbrev pub Log-Prints : Type 0
-Log-Prints = (input text : List ℕ) → Carried (replicate storeSize 0) (map given (linesOf input)) text → text ≡ output input
+Log-Prints = (line : List ℕ) (chunks : List (List ℕ)) (text : List ℕ) → length line ≡ lineLimit → Prints (start line) chunks text → text ≡ output (flat chunks)

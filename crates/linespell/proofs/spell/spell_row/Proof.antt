@@ -5,13 +5,14 @@ use Prim.Native.Nat.{_+_, _-_}
 use mathlib.Core.Path.{_≡_}
 use lib.ListN.{getD, take, drop}
 use Rattle.buffer.specs.Splice.{region}
-use Rattle.linespell.specs.Spelling.{rowLine}
+use Rattle.rows.specs.Entry.{entryOf}
+use Rattle.linespell.specs.Spelling.{entryLine}
 use Rattle.linespell.proofs.Writing.{then, sizes}
 use Rattle.linespell.proofs.spell.spell_row.Statement.{statement}
 use Rattle.linespell.proofs.spell.spell_row.Tie as tie
 
 returns : tie.Need-returns
-unfolding rowLine
+unfolding entryLine entryOf
 returns c =
     let row = c .before .before .before .before .before .before .before .before .before .before .before .before .before .before .before .before .before .before .before .before .before .before .before .before .before .before .before .before .before .before .before .before .before .before .args .row .now in
     let n = c .before .before .before .before .before .before .before .before .before .before .before .before .before .before .before .before .before .before .before .before .before .before .before .before .before .before .before .before .before .before .path-length .result in
