@@ -1,10 +1,10 @@
 -- The test `reachOf` says what it means, `Told`, of every pattern and all known bytes. Assumes nothing.
 use mathlib.Core.Path.{_≡_, refl, sym, ap, ap₂, subst, _∙_}
 use mathlib.Core.List.{List, [], _∷_, _++_, append-assoc, append-nil}
-use mathlib.Core.Bool.{Bool, true, false, not, cond, _&&_}
+use mathlib.Core.Bool.{Bool, true, false, not, cond, _&&_, _||_}
 use Prim.Native.Nat.{ℕ, suc, _-_, _<_, _≤_}
 use native.Mathlib.Omega.{arith}
-use lib.ListN.{length, take, drop-of-length-le}
+use lib.ListN.{length, take, getD, drop-of-length-le}
 use lib.Seq.{split-at}
 use lib.Dec.{eqb}
 use borrow.Author.Tests.{eq-eqb, ne-eqb, eqb-true}
@@ -30,7 +30,20 @@ pattern-some : (p : List ℕ) → formedPattern p ≡ true → none (labelsOf p)
 pattern-some [] e = not-both e refl
 pattern-some (c ∷ p) e = rw (and-left (eqb c slash) (all patternLabel (labelsOf (c ∷ p))) e)
 
-pub begins-begun : (known : List ℕ) → beginsPath known ≡ true → Begun known
+pub is-begun : (known : List ℕ) → none known || eqb (getD known 0 0) slash ≡ true → Begun known
+is-begun [] e = λ f. absurd (f refl)
+is-begun (c ∷ k) e = λ f. eqb-true c slash e
+
+pub not-begun : (known : List ℕ) → none known || eqb (getD known 0 0) slash ≡ false → beginsPath known ≡ false
+not-begun [] e = e
+not-begun (c ∷ k) e = rw e
+
+-- one test that fails is enough
+pub mismatched : (a b : Bool) (x : Answer) → b ≡ false → Mismatch ≡ cond (a && b) x Mismatch
+mismatched true b x e = rw e
+mismatched false b x e = refl
+
+begins-begun : (known : List ℕ) → beginsPath known ≡ true → Begun known
 begins-begun [] e = λ f. absurd (f refl)
 begins-begun (c ∷ k) e = λ f. eqb-true c slash (and-left (eqb c slash) (apart slash (c ∷ k)) e)
 

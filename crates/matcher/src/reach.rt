@@ -2,6 +2,7 @@
 use crate::bytes::END;
 use crate::form::begins_path;
 use crate::form::check_pattern;
+use crate::form::is_begun;
 use crate::form::is_fine;
 use crate::form::is_path;
 use glob::begin::labels_begin;
@@ -19,14 +20,14 @@ pub enum Answer {
     Incomplete,
 }
 
-// The path is known whole.
+// The path is known whole. Most paths fail at the first label: that is tested before their form.
 fn reach_whole(pattern: &[u8], path: &[u8]) -> Answer
     ensures { λ r. ⌜ r ≡ reachWhole (now (pattern .entry)) (now (path .entry)) ⌝ }
 {
-    if !is_path(path) {
+    if !fits_formed(pattern, path) {
         return Answer::Mismatch;
     }
-    if fits_formed(pattern, path) {
+    if is_path(path) {
         return Answer::Match;
     }
     Answer::Mismatch
@@ -36,14 +37,17 @@ fn reach_whole(pattern: &[u8], path: &[u8]) -> Answer
 fn reach_open(pattern: &[u8], known: &[u8]) -> Answer
     ensures { λ r. ⌜ r ≡ reachOpen (now (pattern .entry)) (now (known .entry)) ⌝ }
 {
-    if !begins_path(known) {
+    if !is_begun(known) {
         return Answer::Mismatch;
     }
     let a = label_len(pattern);
-    if labels_begin(&pattern[a..], known) {
+    if !labels_begin(&pattern[a..], known) {
+        return Answer::Mismatch; // however the path goes on
+    }
+    if begins_path(known) {
         return Answer::Incomplete;
     }
-    Answer::Mismatch // however the path goes on
+    Answer::Mismatch
 }
 
 // The answer without a check of the pattern: for the search, which checks its pattern once and then asks at every child. For a pattern that
