@@ -35,6 +35,11 @@ pub begins-begun : (known : List ℕ) → beginsPath known ≡ true → Begun kn
 begins-begun [] e = λ f. absurd (f refl)
 begins-begun (c ∷ k) e = λ f. eqb-true c slash (and-left (eqb c slash) (apart slash (c ∷ k)) e)
 
+-- one test that fails is enough
+pub mismatched : (a b : Bool) (x : Answer) → b ≡ false → Mismatch ≡ cond (a && b) x Mismatch
+mismatched true b x e = rw e
+mismatched false b x e = refl
+
 -- the bytes known begin a path, and their labels can fit: some path goes on from them and fits
 module _ (pattern known : List ℕ) (P : isFine (patternForm pattern) ≡ true) where
   goes-on-open : beginsPath known ≡ true → beginsLabels (labelsOf pattern) (labelsOf known) ≡ true → Continued pattern known
