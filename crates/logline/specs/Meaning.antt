@@ -1,5 +1,6 @@
 -- What a line of `fieldlog` means (document 01, `fieldlog`): `M,L,τ`, or `+,value,reference,path`, or `?,low,high,pattern`. A line is read
--- field by field, and the path or pattern is all that remains, commas included. Assumes nothing: these are definitions.
+-- field by field, and the path or pattern is all that remains, commas included. Worked in session/specs/Worked.antt. Assumes nothing: these are
+-- definitions.
 use Prim.Native.Nat.{ℕ, _+_, _≤_}
 use mathlib.Core.Path.{_≡_}
 use mathlib.Core.List.{List}

@@ -3,3 +3,4 @@ pub mod Printed
 pub mod Enough
 pub mod Keeps
 pub mod Whole
+pub mod Worked
