@@ -1,9 +1,10 @@
 -- The bytes with a meaning of their own, the sizes, and the bytes of a label. Assumes nothing: these are definitions.
-use Prim.Native.Nat.{ℕ}
-use mathlib.Core.List.{List, _∷_, _++_}
+use Prim.Native.Nat.{ℕ, _<_}
+use mathlib.Core.Path.{_≡_}
+use mathlib.Core.List.{List}
 use mathlib.Core.Bool.{Bool, not, _&&_, _||_}
 use lib.Dec.{eqb, leb}
-use lib.ListN.{replicate}
+use lib.ListN.{getD}
 -- the most bytes of a path, and of a pattern
 pub use Rattle.buffer.specs.Sizes.{pathLimit}
 -- `/` and `*`
@@ -21,6 +22,6 @@ patternLabelLimit = 32
 unfoldable pub labelByte : ℕ → Bool
 labelByte c = ((leb 0x20 c && leb c 0x7E) || (leb 0x80 c && leb c 0xFF)) && (not (eqb c slash) && not (eqb c star))
 
--- the table of 256 marks, as runs: 1 for each byte of a label
-abbrev pub labelMarks : List ℕ
-labelMarks = replicate 32 0 ++ (replicate 10 1 ++ (0 ∷ (replicate 4 1 ++ (0 ∷ (replicate 79 1 ++ (0 ∷ replicate 128 1))))))
+-- marks, one for each byte, that follow the rule: 1 stands at each byte of a label, and at no other
+pub record Marks (marks : List ℕ) : Type 0 where
+  pub are : (c : ℕ) → c < 256 → eqb (getD marks c 0) 1 ≡ labelByte c

@@ -1,9 +1,9 @@
--- `matcher::form::may_stand` meets its contract: the test picks the case.
+-- `matcher::runs::may_stand` meets its contract: the test picks the case.
 -- Assumes nothing.
 use borrow.Author.Tests.{eq-eqb, ne-eqb}
 use borrow.Author.Needs.{needs}
-use Rattle.matcher.proofs.form.may_stand.Statement.{statement}
-use Rattle.matcher.proofs.form.may_stand.Tie as tie
+use Rattle.matcher.proofs.runs.may_stand.Statement.{statement}
+use Rattle.matcher.proofs.runs.may_stand.Tie as tie
 
 returns : tie.Need-returns
 returns c = rw (eq-eqb _ _ (c .if1 .taken))

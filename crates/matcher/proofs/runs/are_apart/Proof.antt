@@ -1,20 +1,26 @@
--- `matcher::form::are_apart` meets its contract. The invariant: what holds from here on is what holds of the whole.
+-- `matcher::runs::are_apart` meets its contract. The invariant: what holds from here on is what holds of the whole.
 -- Assumes nothing.
-use mathlib.Core.Path.{_≡_, sym, _∙_}
+use mathlib.Core.Path.{_≡_, refl, sym, _∙_}
 use Prim.Native.Nat.{_-_, _≤_}
 use lib.ListN.{length, drop}
 use borrow.Author.Tests.{not-true, not-false}
 use borrow.Author.Needs.{needs}
+use Rattle.matcher.specs.Bytes.{labelByte}
 use Rattle.matcher.specs.Form.{apart}
 use Rattle.matcher.proofs.Apart.{apart-stop, apart-on, apart-end}
-use Rattle.matcher.proofs.form.are_apart.Statement.{statement}
-use Rattle.matcher.proofs.form.are_apart.Tie as tie
+use Rattle.matcher.proofs.Table.{marks-follow}
+use Rattle.matcher.proofs.runs.are_apart.Statement.{statement}
+use Rattle.matcher.proofs.runs.are_apart.Tie as tie
 
 abbrev Inv-loop : tie.InvT-loop
 Inv-loop s mark marks i₀ i = (i ≤ length s) × (apart mark s ≡ apart mark (drop i s))
 
 abbrev μ-loop : tie.MeasureT-loop
 μ-loop s mark marks i₀ i = length s - i
+
+may-stand-requires : tie.Need-may-stand-requires Inv-loop μ-loop
+unfolding labelByte
+may-stand-requires c κs = marks-follow _ refl tt
 
 returns : tie.Need-returns Inv-loop μ-loop
 returns c =
@@ -48,7 +54,7 @@ are-apart-spec =
     (λ c. search needs)
     (λ c. search needs)
     (λ c κs. search needs)
-    (λ c κs. search needs)
+    may-stand-requires
     returns
     (λ c. search needs)
     (λ c. search needs)
