@@ -312,7 +312,7 @@ pub +build-spec : {M : Type 1} → statement M
     (put-suffixes-requires t)
     (λ c. omega (arith, fits t (c .before .before .before .before .before .before)))
     (λ c. omega (arith, fits t (c .before .before .before .before .before .before)))
-    (λ c. let f = fits t (c .before .before .before .before .before .before) in omega (arith, c .before .before .before .put-suffixes .ensures .1))
+    (λ c. omega (arith, fits t (c .before .before .before .before .before .before), c .before .before .before .put-suffixes .ensures .1))
     (put-head-requires t)
     (λ c. search needs)
     (returns t)

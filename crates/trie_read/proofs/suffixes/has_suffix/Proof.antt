@@ -48,10 +48,10 @@ has-suffix-spec =
     (λ c. search needs)
     (λ c κs. within (c .before))
     returns
-    (λ c. let w = within (c .before .before .before) in omega arith)
-    (λ c. let w = within (c .before .before .before) in omega arith)
-    (λ c. let w = within (c .before .before .before) in omega arith)
-    (λ c. let w = within (c .before .before .before .before) in omega (arith, c .b .given .2))
+    (λ c. omega (arith, within (c .before .before .before)))
+    (λ c. omega (arith, within (c .before .before .before)))
+    (λ c. omega (arith, within (c .before .before .before)))
+    (λ c. omega (arith, within (c .before .before .before .before), c .b .given .2))
     loop-again
     (λ c. search needs)
     (λ c. λ ts a e. among-end (c .before .before .before .loop .inv ts a e) (c .before .before .read-suffix .ensures .1) (c .enum-told .given .1))

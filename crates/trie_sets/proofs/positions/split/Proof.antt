@@ -113,7 +113,7 @@ split-spec =
     tie.close
     (tie.spec
     (λ c κs. search needs)
-    (λ c. let h = least-short c in omega arith)
+    (λ c. omega (arith, least-short c))
     common-bytes-requires
     common-bytes-requires-2
     (λ c κs. search needs)
