@@ -15,7 +15,7 @@ use Rattle.matcher.specs.Form.{patternForm, patternNumber}
 use Rattle.matcher.specs.declared.form.Form.{Form}
 use Rattle.matcher.specs.declared.form.Form.the-variants.{Fine, TooLong, Malformed}
 use Rattle.rows.specs.Sizes.{rowSize}
-use Rattle.rows.specs.Entry.{Entry, row}
+use Rattle.rows.specs.Entry.{row}
 use Rattle.rows.specs.Order.{entryOrder}
 use Rattle.rows.proofs.Sorted.{length-sorted}
 use Rattle.entries.specs.Query.{Query, matchesEntry}
@@ -43,16 +43,17 @@ few-held f h =
     let most : f .held ≤ m * 2 ^ l - 1 = ltb-false (capacity m l) (f .held) (or-right-false (none || short) over h) in
     omega (arith, mul-assoc 1024 m (2 ^ l))
 
-matching-few : (q : Query) (es : List Entry) → length (matching q es) ≤ length es
-unfolding matching
-matching-few q es = omega (arith, length-sorted entryOrder (pick (matchesEntry q) es), length-pick (matchesEntry q) es, count-most (matchesEntry q) es)
-
 module _ (b : Book) (q : Query) (z : searchNumber storeSize (front b) q ≡ 0) where
   stored : noStore storeSize (front b) ≡ false
   stored = not-true (noStore storeSize (front b)) (λ t. let four = search-short storeSize (front b) q t in absurd (omega (arith, z, four)))
 
+  -- no more rows than entries
   enough : length (map row (matching q (b .entries))) * rowSize ≤ answerSize
-  enough = omega (arith, few-held (front b) stored, matching-few q (b .entries), length-map (matching q (b .entries)) row)
+  unfolding matching
+  enough =
+      let es = b .entries in
+      let t = matchesEntry q in
+      omega (arith, few-held (front b) stored, count-most t es, length-pick t es, length-sorted entryOrder (pick t es), length-map (matching q es) row)
 
   -- a search that no reason refuses is accepted, with all its rows
   pub accepted : (answer : List ℕ) → length answer ≡ answerSize → let found = matching q (b .entries) in

@@ -35,7 +35,7 @@ short w = omega (arith, w .ends, w .room)
 
 pub ran-misread : {store out filled : List ℕ} {n : ℕ} → Wrote out 0 (replyLine (reply 12 0 0)) filled n → Ran misread store store out filled n
 unfolding printed next replyLine
-ran-misread w = record { size = refl; short = short w; prints = λ b k. w; keeps = λ b k. k }
+ran-misread w = record { short = short w; prints = λ b k. w; keeps = λ b k. k }
 
 module _ {store after out filled : List ℕ} {r : Reply} {n : ℕ} (lent : length store ≡ storeSize) (size : length after ≡ length store) (w : Wrote out 0 (replyLine r) filled n) where
   pub ran-setup : (m l t : ℕ) → SetsUp m l t store after r → Ran (setup m l t) store after out filled n
@@ -43,7 +43,6 @@ module _ {store after out filled : List ℕ} {r : Reply} {n : ℕ} (lent : lengt
   ran-setup m l t p =
       let k : (b : Book) → Keeps store b → Kept b (setupCall m l t) (result r []) after = λ b h. kept-setup store after (result r []) lent size b m l t (p, refl) h in
       record {
-        size = size;
         short = short w;
         prints = λ b h. subst (λ (x : Result). Wrote out 0 (replyLine (x .reply)) filled n) (k b h .result) w;
         keeps = λ b h. k b h .keeps;
@@ -56,7 +55,6 @@ module _ {store after out filled : List ℕ} {r : Reply} {n : ℕ} (lent : lengt
       let e = entry path value reference in
       let k : (b : Book) → Keeps store b → Kept b (addCall e) (result r []) after = λ b h. kept-add store after (result r []) lent size b e t (p, refl) h in
       record {
-        size = size;
         short = short w;
         prints = λ b h. subst (λ (x : Result). Wrote out 0 (replyLine (x .reply)) filled n) (k b h .result) w;
         keeps = λ b h. k b h .keeps;
@@ -110,7 +108,6 @@ module _ {low high : ℕ} {pattern store answer filled : List ℕ} {r : Reply} (
   unfolding next
   ran-refused {out} {out′} {n} z w =
       record {
-        size = refl;
         short = short w;
         prints = λ b h. by-number (λ text. Wrote out 0 text out′ n) b h (λ k e. w) (λ e f. absurd (z (ap (λ (x : Reply). x .number) e)));
         keeps = λ b h. h;
@@ -121,7 +118,6 @@ module _ {low high : ℕ} {pattern store answer filled : List ℕ} {r : Reply} (
   unfolding next
   ran-accepted {out} {between} {out′} {at} {n} z a w =
       record {
-        size = refl;
         short = short (then a w);
         prints = λ b h.
             (let q = asked pattern low high in

@@ -18,7 +18,6 @@ pub data Keeps (store : List ℕ) (b : Book) : Type 0 where
 
 -- A line that means m was carried out: what it prints stands at the beginning of `out`, n bytes, and the store keeps the book after it
 pub record Ran (m : Meaning) (store after out filled : List ℕ) (n : ℕ) : Type 0 where
-  pub size : length after ≡ length store
   pub short : n ≤ length out
   pub prints : (b : Book) → Keeps store b → Wrote out 0 (printed b m) filled n
   pub keeps : (b : Book) → Keeps store b → Keeps after (next b m)

@@ -16,6 +16,7 @@ pub data Feeds : State → List ℕ → List ℕ → State → Type 0 where
       {s between after : State} {x : ℕ} {bytes text rest : List ℕ} → FedByte x s between text → Feeds between bytes rest after →
       Feeds s (x ∷ bytes) (text ++ rest) after
 
+-- .. whatever it was
 pub record FedBytes (s : State) (bytes : List ℕ) (after : State) : Type 0 where
   pub text : List ℕ
   pub feeds : Feeds s bytes text after
