@@ -173,9 +173,11 @@ module _ (q : Query) (v p : ℕ) (b : List ℕ) (path next : ℕ) (k : List ℕ)
   unfolding wants under join known
   wants-both = refl
 
-  pub wants-told : (a : Answer) (r : Bool) → a ≡ valueReach q (take v k ++ part 22 path b)
-      → r ≡ isMatch a && isMatch (reachOf (q .pattern) (region k pathAt p ++ part path next b)) → wants q x ≡ r
-  wants-told a r e f = sym wants-both ∙ ap (λ (z : Answer). isMatch z && isMatch (reachOf (q .pattern) (region k pathAt p ++ part path next b))) (sym e) ∙ sym f
+  pub wants-told : (a m : Answer) (r : Bool) → a ≡ valueReach q (take v k ++ part 22 path b)
+      → m ≡ both a (reachOf (q .pattern) (region k pathAt p ++ part path next b)) → r ≡ isMatch m → wants q x ≡ r
+  wants-told a m r e f g =
+      let t = reachOf (q .pattern) (region k pathAt p ++ part path next b) in
+      sym wants-both ∙ ap (λ (y : Answer). isMatch y && isMatch t) (sym e) ∙ sym (both-match a t) ∙ sym (ap isMatch f) ∙ sym g
 
   taken-not : {k' : List ℕ} → hasSlot x && wants q x ≡ false → known v p k' ≡ known v p k → Taken q v p b path next k k' false
   unfolding takes

@@ -57,11 +57,10 @@ fn both(value: Answer, path: Answer) -> Answer
     }
 }
 
-// Can known bytes be continued, by the answers of both dimensions?
-fn goes_on(value: Answer, path: Answer) -> bool
-    ensures { λ r. ⌜ r ≡ goesOn value && goesOn path ⌝ }
+// Can known bytes be continued, by the answer of both dimensions?
+fn goes_on(answer: Answer) -> bool
+    ensures { λ r. ⌜ r ≡ goesOn answer ⌝ }
 {
-    let answer = both(value, path);
     match answer {
         Answer::Mismatch => false,
         Answer::Match => true,
@@ -69,11 +68,10 @@ fn goes_on(value: Answer, path: Answer) -> bool
     }
 }
 
-// Does a whole key match, by the answers of both dimensions?
-fn matches_both(value: Answer, path: Answer) -> bool
-    ensures { λ r. ⌜ r ≡ isMatch value && isMatch path ⌝ }
+// Does a whole key match, by the answer of both dimensions?
+fn is_match(answer: Answer) -> bool
+    ensures { λ r. ⌜ r ≡ isMatch answer ⌝ }
 {
-    let answer = both(value, path);
     match answer {
         Answer::Match => true,
         Answer::Mismatch => false,
@@ -160,29 +158,16 @@ fn path_with(pattern: &[u8], key: &mut [u8], p: usize, s: &[u8]) -> Answer
     reach_formed(pattern, &key[PATH_AT..end])
 }
 
-// Can known bytes be continued where the value is answered and the path has the bytes s more?
-fn path_goes_on(value: Answer, pattern: &[u8], key: &mut [u8], p: usize, s: &[u8]) -> bool
+// The answer of both dimensions, where the value is answered and the path has the bytes s more: it is asked where the value is no mismatch.
+fn ask_path(value: Answer, pattern: &[u8], key: &mut [u8], p: usize, s: &[u8]) -> Answer
     requires { ⌜ isFine (patternForm (now pattern)) ≡ true ⌝ }
     requires { ⌜ (length (now key) ≡ slotSize) × (p + length (now s) ≤ endedLimit + 1) ⌝ }
-    ensures { λ r. ⌜ r ≡ goesOn value && goesOn (reachOf (now (pattern .entry)) (region (now (key .entry)) pathAt p ++ now (s .entry))) ⌝ }
+    ensures { λ r. ⌜ r ≡ both value (reachOf (now (pattern .entry)) (region (now (key .entry)) pathAt p ++ now (s .entry))) ⌝ }
     ensures { λ _. ⌜ take (pathAt + p) (now (key .exit)) ≡ take (pathAt + p) (now (key .entry)) ⌝ }
 {
     match value {
-        Answer::Mismatch => false,
-        _ => goes_on(value, path_with(pattern, key, p, s)),
-    }
-}
-
-// Does a key match whose value is answered and whose path has the bytes s more?
-fn path_matches(value: Answer, pattern: &[u8], key: &mut [u8], p: usize, s: &[u8]) -> bool
-    requires { ⌜ isFine (patternForm (now pattern)) ≡ true ⌝ }
-    requires { ⌜ (length (now key) ≡ slotSize) × (p + length (now s) ≤ endedLimit + 1) ⌝ }
-    ensures { λ r. ⌜ r ≡ isMatch value && isMatch (reachOf (now (pattern .entry)) (region (now (key .entry)) pathAt p ++ now (s .entry))) ⌝ }
-    ensures { λ _. ⌜ take (pathAt + p) (now (key .exit)) ≡ take (pathAt + p) (now (key .entry)) ⌝ }
-{
-    match value {
-        Answer::Mismatch => false,
-        _ => matches_both(value, path_with(pattern, key, p, s)),
+        Answer::Mismatch => Answer::Mismatch,
+        _ => both(value, path_with(pattern, key, p, s)),
     }
 }
 
@@ -233,10 +218,10 @@ fn admits(
             common.to,
             &t[HEAD_SIZE..path],
         );
-        return goes_on(value, other);
+        return goes_on(both(value, other));
     }
     let end = one_more(kind, PATH_KIND, path, body);
-    path_goes_on(other, pattern, key, p, &t[path..end])
+    goes_on(ask_path(other, pattern, key, p, &t[path..end]))
 }
 
 // Goes down to a node of the bytes t, if a search enters it and its strings have room: then they stand behind what is known.
@@ -288,7 +273,7 @@ pub(crate) fn take_key(
         return false;
     }
     let value = value_with(from, to, v, &b[SUFFIX_SIZE..path]);
-    if path_matches(value, pattern, key, p, &b[path..next]) {
+    if is_match(ask_path(value, pattern, key, p, &b[path..next])) {
         return compose(key, v, p, b, path, next);
     }
     false
