@@ -11,6 +11,7 @@ use Rattle.buffer.specs.Text.{text}
 use Rattle.entries.specs.Query.{asked}
 use Rattle.book.specs.Digits.{level, small}
 use Rattle.book.specs.Book.{Book, blank, fresh}
+use Rattle.book.specs.Tries.{levelTrie}
 use Rattle.book.specs.Replies.{Reply, reply, Result}
 use Rattle.book.specs.Calls.{Call, setup, add, search, readLevel}
 use Rattle.book.specs.Step.{step, answers}
@@ -125,3 +126,47 @@ example-image = refl
 pub example-fresh : length (image (fresh 1 1 1)) ≡ 6144
 unfolding of-an-image
 example-fresh = refl
+
+-- A root is entered even where its own strings rule it out, and then none of its children is: the small trie of two entries has the root
+-- (7, /north/), which neither the path /lake nor the value 8 goes on from
+abbrev ruled-out : List Call
+ruled-out =
+    setup 65536 4 2 1 ∷ add 65536 (entry "/north/pond" 7 1) ∷ add 65536 (entry "/north/edge" 7 1) ∷ search 65536 (asked (text "/lake") 0 8) []
+    ∷ search 65536 (asked (text "/**") 8 9) [] ∷ []
+
+pub example-ruled-out : drop 3 (replies blank ruled-out) ≡ reply 0 0 1 ∷ reply 0 0 1 ∷ []
+unfolding of-a-book
+example-ruled-out = refl
+
+-- Over all tries, M 2 and L 2: level 0 has two entries, the small trie one. All is found in 4 nodes, the two roots and the two leaves of the
+-- level; for the value 5, which the small trie has, only its root and that of the level are entered. An entry of a level is there already,
+-- and a repeat puts nothing
+abbrev two-tries : List Call
+two-tries =
+    setup 12288 2 2 1 ∷ add 12288 (entry "/north/pond" 7 1) ∷ add 12288 (entry "/north/edge" 7 1) ∷ add 12288 (entry "/south/edge" 5 2)
+    ∷ search 12288 (asked (text "/**") 0 9) (replicate 687 0) ∷ search 12288 (asked (text "/**") 5 5) (replicate 229 0)
+    ∷ add 12288 (entry "/north/pond" 7 1) ∷ add 12288 (entry "/south/edge" 5 2) ∷ add 12288 (entry "/south/pond" 5 2) ∷ []
+
+pub example-two-tries :
+    drop 3 (replies blank two-tries)
+    ≡ reply 0 3 0 ∷ reply 0 3 4 ∷ reply 0 1 2 ∷ reply 100 3 0 ∷ reply 100 3 0 ∷ reply 0 4 0 ∷ []
+unfolding of-a-book
+example-two-tries = refl
+
+-- each entry counts as a key, also where only references differ: two are more than τ 1, differ in neither dimension, and are one leaf
+abbrev references : List Call
+references =
+    setup 8192 2 1 1 ∷ add 8192 (entry "/north/pond" 7 2) ∷ add 8192 (entry "/north/pond" 7 1) ∷ readLevel 8192 0 (replicate 1720 9) ∷ []
+
+abbrev leaf-record : ℕ → List ℕ
+leaf-record r = row (entry "/north/pond" 7 r) ++ (1 ∷ 0 ∷ 13 ∷ 9 ∷ replicate 627 0)
+
+pub example-references :
+    map (λ (r : Result). r .answer) (drop 3 (answers blank references)) ≡ (leaf-record 1 ++ leaf-record 2) ∷ []
+unfolding of-a-book
+example-references = refl
+
+-- in a level age plays no part
+pub example-age : levelTrie 2 (entry "/north/pond" 7 1 ∷ entry "/north/edge" 7 1 ∷ []) ≡ levelTrie 2 (entry "/north/edge" 7 1 ∷ entry "/north/pond" 7 1 ∷ [])
+unfolding of-a-book
+example-age = refl

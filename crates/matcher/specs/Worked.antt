@@ -1,11 +1,13 @@
--- Worked cases of document 01, P5 to P10 and the one on `**` of "Where a reader of the paper goes astray", as a table with one theorem.
+-- Worked cases of document 01, P5 to P10 and the one on `**` of "Where a reader of the paper goes astray", as a table with one theorem; and
+-- where bytes can just be continued, or just not.
 -- Assumes nothing.
 use mathlib.Core.Path.{_≡_, refl}
-use mathlib.Core.List.{List, [], _∷_, map}
+use mathlib.Core.List.{List, [], _∷_, _++_, map}
 use mathlib.Core.Bool.{Bool, true, false}
 use Prim.Native.Nat.{ℕ}
+use lib.ListN.{replicate}
 use Rattle.buffer.specs.Text.{text}
-use Rattle.matcher.specs.Bytes.{labelByte}
+use Rattle.matcher.specs.Bytes.{endByte, labelByte}
 use Rattle.matcher.specs.Form.{pathForm, patternForm}
 use Rattle.matcher.specs.Fit.{fit}
 use Rattle.matcher.specs.Matches.{matches}
@@ -49,3 +51,28 @@ p10 = known (text "/fs/*") (text "/gs/")
 pub worked : map decided (p5 ∷ p6 ∷ p7 ∷ p8 ∷ p9 ∷ astray ∷ p10 ∷ []) ≡ true ∷ false ∷ false ∷ true ∷ true ∷ true ∷ false ∷ []
 unfolding labelByte fit pathForm patternForm matches reachOf
 worked = refl
+
+-- `/` can be continued for `/*`, but `/a/` cannot for `/a` nor for `/a*`: a label has a byte, and `*` takes no `/`
+abbrev first-byte : Case
+first-byte = known (text "/*") (text "/")
+
+abbrev label-more : Case
+label-more = known (text "/a") (text "/a/")
+
+abbrev star-label-more : Case
+star-label-more = known (text "/a*") (text "/a/")
+
+-- 200 bytes can be continued for `/a*b`, whose path then has 201: in this rule a path may be of any length
+abbrev longer : Case
+longer = known (text "/a*b") (text "/" ++ replicate 199 97)
+
+-- with its end byte a path is whole: `/north` cannot be continued for `/**/edge`, though without the end byte it can
+abbrev whole : Case
+whole = known (text "/**/edge") (text "/north" ++ (endByte ∷ []))
+
+abbrev begun : Case
+begun = known (text "/**/edge") (text "/north")
+
+pub worked-known : map decided (first-byte ∷ label-more ∷ star-label-more ∷ longer ∷ whole ∷ begun ∷ []) ≡ true ∷ false ∷ false ∷ true ∷ false ∷ true ∷ []
+unfolding labelByte fit pathForm patternForm matches reachOf
+worked-known = refl
