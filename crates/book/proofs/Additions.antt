@@ -17,7 +17,7 @@ use Rattle.trie_theory.specs.Level.{levelOf}
 use Rattle.trie_theory.specs.SmallTrie.{added, grown, smallTrie}
 use Rattle.trie_theory.proofs.SmallKept.{small-last}
 use Rattle.entries.specs.Keys.{entryKey}
-use Rattle.book.specs.Digits.{digit, rounds, levelSize, level, small}
+use Rattle.book.specs.Digits.{digit, quotient, levelSize, level, small}
 use Rattle.book.specs.Book.{Book, Sound, put, held, formed}
 use Rattle.book.specs.Tries.{levelTrie, tries}
 use Rattle.book.specs.Overflow.{fromHighest}
@@ -39,7 +39,7 @@ unfolding levelTrie sorted levelOf
 level-empty τ = refl
 
 -- a level whose digit is 0 has no trie
-pub digit-empty : (b : Book) (i : ℕ) → digit i (rounds (b .M) (b .entries)) ≡ 0 → tries b .level i ≡ none
+pub digit-empty : (b : Book) (i : ℕ) → digit i (quotient (b .M) (b .entries)) ≡ 0 → tries b .level i ≡ none
 unfolding tries level levelSize
 digit-empty b i z = rw (z, mul-zero (b .M * 2 ^ i)) (level-empty (b .τ))
 
@@ -50,7 +50,7 @@ unfolding levelTrie
 level-decided τ xs ys p q c = ap (λ (l : List Entry). levelOf 2 τ (map entryKey l)) (entries-decided xs ys p q c)
 
 highest-formed : (m l : ℕ) (es : List Entry) → all formed es ≡ true → all formed (fromHighest m l es) ≡ true
-highest-formed m l es a = subst (λ (x : List Entry). all formed x ≡ true) (below m l es) (tested-drop formed (begin m l (rounds m es)) es a)
+highest-formed m l es a = subst (λ (x : List Entry). all formed x ≡ true) (below m l es) (tested-drop formed (begin m l (quotient m es)) es a)
 
 -- ---- the small trie stays below M entries
 
@@ -70,10 +70,10 @@ module _ (b : Book) (e : Entry) (h : length (small (b .M) (b .entries)) + 1 < b 
 
 -- there is one below L, unless the store is full
 pub not-all-full : (b : Book) → length (small (b .M) (b .entries)) + 1 ≡ b .M → held b + 1 < b .M * 2 ^ b .L
-    → ((i : ℕ) → i < b .L → digit i (rounds (b .M) (b .entries)) ≡ 1) → ⊥
-unfolding rounds
+    → ((i : ℕ) → i < b .L → digit i (quotient (b .M) (b .entries)) ≡ 1) → ⊥
+unfolding quotient
 not-all-full b h room others =
-    let n = rounds (b .M) (b .entries) in
+    let n = quotient (b .M) (b .entries) in
     let e : length (b .entries) + 1 ≡ b .M * (n + 1) = round-full (b .M) (b .entries) h in
     let positive : 0 < b .M = omega arith in
     let few : n < 2 ^ b .L = div-lt-iff-lt-mul positive .1 (subst (λ (x : ℕ). held b < x) (mul-comm (b .M) (2 ^ b .L)) (omega arith)) in
@@ -81,8 +81,8 @@ not-all-full b h room others =
     let f : length (b .entries) + 1 ≡ b .M * 2 ^ b .L = e ∙ ap (λ (x : ℕ). b .M * x) o in
     omega arith
 
-module _ (b : Book) (e : Entry) (j : ℕ) (h : length (small (b .M) (b .entries)) + 1 ≡ b .M) (empty : digit j (rounds (b .M) (b .entries)) ≡ 0)
-    (others : (i : ℕ) → i < j → digit i (rounds (b .M) (b .entries)) ≡ 1) where
+module _ (b : Book) (e : Entry) (j : ℕ) (h : length (small (b .M) (b .entries)) + 1 ≡ b .M) (empty : digit j (quotient (b .M) (b .entries)) ≡ 0)
+    (others : (i : ℕ) → i < j → digit i (quotient (b .M) (b .entries)) ≡ 1) where
   pub small-emptied : tries (put e b) .small ≡ none
   unfolding tries
   small-emptied = ap (λ (l : List Entry). smallTrie (map entryKey l)) (overflows (b .M) j (b .entries) e h empty others .emptied) ∙ small-empty

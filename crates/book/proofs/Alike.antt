@@ -26,7 +26,7 @@ use Rattle.trie_theory.specs.Search.{nodesEntered}
 use Rattle.entries.specs.Keys.{entryKey}
 use Rattle.entries.specs.Query.{Query, reaches}
 use Rattle.book.specs.Front.{Front, frontRoom, entryRoom, frontBytes, heldAt}
-use Rattle.book.specs.Digits.{digit, rounds, small}
+use Rattle.book.specs.Digits.{digit, quotient, small}
 use Rattle.book.specs.Book.{Book, Sound, held, front, put, has, formed}
 use Rattle.book.specs.Tries.{every, levelTrie, tries}
 use Rattle.book.specs.Searching.{nodesOf}
@@ -117,8 +117,8 @@ module _ (b b′ : Book) (same : Same b b′) where
   unfolding hasIn
   has-same s s′ e = sym (looked-up b s e) ∙ ap (any (λ f. member root f (entryKey e))) all-same ∙ looked-up b′ s′ e
 
-  rounds-same : rounds (b .M) (b .entries) ≡ rounds (b′ .M) (b′ .entries)
-  unfolding rounds
+  rounds-same : quotient (b .M) (b .entries) ≡ quotient (b′ .M) (b′ .entries)
+  unfolding quotient
   rounds-same = ap₂ (λ (n m : ℕ). n / m) held-same m-same
 
   few-same : length (small (b .M) (b .entries)) ≡ length (small (b′ .M) (b′ .entries))
@@ -135,7 +135,7 @@ module _ (b b′ : Book) (same : Same b b′) (e : Entry) (s : Sound b) (s′ : 
       ∙ (λ i. now (image-same b b′ same i) (m-same b b′ same i) (same .small i) (held-same b b′ same i))
       ∙ add-small b′ e s′ p′ h′
 
-  overflows-same : length (small (b .M) (b .entries)) + 1 ≡ b .M → FirstEmpty (b .L) (rounds (b .M) (b .entries)) → image (put e b) ≡ image (put e b′)
+  overflows-same : length (small (b .M) (b .entries)) + 1 ≡ b .M → FirstEmpty (b .L) (quotient (b .M) (b .entries)) → image (put e b) ≡ image (put e b′)
   overflows-same h z =
       let j = z .at in
       let xs = entriesIn j (tries b) ++ (e ∷ []) in
@@ -160,9 +160,9 @@ module _ (b b′ : Book) (same : Same b b′) (e : Entry) (s : Sound b) (s′ : 
       go false q =
           let k = ltb-false (length (small (b .M) (b .entries)) + 1) (b .M) q in
           let h : length (small (b .M) (b .entries)) + 1 ≡ b .M = omega (arith, few) in
-          ⊎-elim (λ (z : FirstEmpty (b .L) (rounds (b .M) (b .entries))). overflows-same h z)
-          (λ (o : (i : ℕ) → i < b .L → digit i (rounds (b .M) (b .entries)) ≡ 1). absurd (not-all-full b h (omega (arith, p .room, length-append (b .entries) (e ∷ []))) o))
-          (first-empty (b .L) (rounds (b .M) (b .entries)))
+          ⊎-elim (λ (z : FirstEmpty (b .L) (quotient (b .M) (b .entries))). overflows-same h z)
+          (λ (o : (i : ℕ) → i < b .L → digit i (quotient (b .M) (b .entries)) ≡ 1). absurd (not-all-full b h (omega (arith, p .room, length-append (b .entries) (e ∷ []))) o))
+          (first-empty (b .L) (quotient (b .M) (b .entries)))
 
 -- ---- ONE CALL, ALIKE
 

@@ -7,7 +7,7 @@ use native.Mathlib.Nat.{mul-assoc, mul-comm, mul-add, pow-suc, pow-zero, div-one
 use lib.ListN.{length, take, drop, take-append-drop, length-drop}
 use lib.Seq.{drop-drop, length-take-le}
 use Rattle.rows.specs.Entry.{Entry}
-use Rattle.book.specs.Digits.{digit, rounds, levelSize, levelStart, level, small}
+use Rattle.book.specs.Digits.{digit, quotient, levelSize, levelStart, level, small}
 use Rattle.book.specs.Overflow.{fromHighest}
 
 -- where the entries of the levels below i begin
@@ -25,15 +25,15 @@ begin-zero : (m n : ℕ) → begin m 0 n ≡ m * n
 unfolding begin
 begin-zero m n = rw (pow-zero 2, div-one n, mul-one m)
 
-pub below : (m l : ℕ) (es : List Entry) → drop (begin m l (rounds m es)) es ≡ fromHighest m l es
+pub below : (m l : ℕ) (es : List Entry) → drop (begin m l (quotient m es)) es ≡ fromHighest m l es
 unfolding fromHighest small level levelSize levelStart begin
-below m zero es = ap (λ (k : ℕ). drop k es) (begin-zero m (rounds m es))
+below m zero es = ap (λ (k : ℕ). drop k es) (begin-zero m (quotient m es))
 below m (suc l) es =
-    let from = begin m (suc l) (rounds m es) in
-    let size = m * 2 ^ l * digit l (rounds m es) in
+    let from = begin m (suc l) (quotient m es) in
+    let size = m * 2 ^ l * digit l (quotient m es) in
     sym (take-append-drop size (drop from es))
     ∙ ap (λ (x : List Entry). take size (drop from es) ++ x)
-    (drop-drop size from es ∙ ap (λ (k : ℕ). drop k es) (begin-step m l (rounds m es)) ∙ below m l es)
+    (drop-drop size from es ∙ ap (λ (k : ℕ). drop k es) (begin-step m l (quotient m es)) ∙ below m l es)
 
 begin-none : (m l n : ℕ) → n < m * 2 ^ l → begin m l (n / m) ≡ 0
 unfolding begin
@@ -44,7 +44,7 @@ begin-none (suc m) l n h =
 
 -- none lost or added
 pub levels-whole : (m l : ℕ) (es : List Entry) → length es < m * 2 ^ l → fromHighest m l es ≡ es
-unfolding rounds
+unfolding quotient
 levels-whole m l es h = sym (below m l es) ∙ ap (λ (k : ℕ). drop k es) (begin-none m l (length es) h)
 
 pub begin-held : (m i n : ℕ) → begin m i n ≤ m * n
@@ -52,10 +52,10 @@ unfolding begin
 begin-held m i n = rw (mul-assoc m (2 ^ i) (n / 2 ^ i), mul-comm (2 ^ i) (n / 2 ^ i)) (mul-le-mul-left m (div-mul-le-self n (2 ^ i)))
 
 -- level i has M × 2^i entries where the digit is 1, and none otherwise
-pub level-length : (m i : ℕ) (es : List Entry) → length (level m i es) ≡ m * 2 ^ i * digit i (rounds m es)
-unfolding level levelSize levelStart rounds begin
+pub level-length : (m i : ℕ) (es : List Entry) → length (level m i es) ≡ m * 2 ^ i * digit i (quotient m es)
+unfolding level levelSize levelStart quotient begin
 level-length m i es =
-    let n = rounds m es in
+    let n = quotient m es in
     let h₁ : begin m (suc i) n + m * 2 ^ i * digit i n ≡ begin m i n = begin-step m i n in
     let h₂ : begin m i n ≤ m * n = begin-held m i n in
     let h₃ : m * n ≤ length es = subst (λ (x : ℕ). x ≤ length es) (mul-comm (length es / m) m) (div-mul-le-self (length es) m) in

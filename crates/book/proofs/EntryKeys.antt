@@ -49,7 +49,7 @@ two (v ∷ []) h = absurd (false≢true (and-right (isValue v) false h))
 two (v ∷ p ∷ []) h = (and-left (isValue v) (isPath p && true) h, and-left (isPath p) true (and-right (isValue v) (isPath p && true) h), refl)
 two (v ∷ p ∷ q ∷ ss) h = absurd (false≢true (and-right (isPath p) false (and-right (isValue v) (isPath p && false) h)))
 
-module _ (x : Key) (e : Dimensions.Entry x) where
+module _ (x : Key) (e : Dimensions.OfEntry x) where
   path-parts : let p = at 1 (x .strings) in (take (length p - 1) p ++ (0 ∷ []) ≡ p) × (all (ltb 0) (take (length p - 1) p) ≡ true)
   path-parts =
       let p = at 1 (x .strings) in
@@ -79,13 +79,13 @@ module _ (x : Key) (e : Dimensions.Entry x) where
       let l : length (take (length p - 1) p) ≤ pathLimit = omega (arith, length-take-le (length p - 1) p (omega arith), e .short) in
       and-both (le-leb (length (take (length p - 1) p)) pathLimit l) (and-both (path-parts .1) (eq-eqb (length (x .reference)) referenceSize (e .named)))
 
-back-all : {xs : List Key} → All Dimensions.Entry xs → (xs ≡ map entryKey (map keyEntry xs)) × (all fitsRow (map keyEntry xs) ≡ true)
+back-all : {xs : List Key} → All Dimensions.OfEntry xs → (xs ≡ map entryKey (map keyEntry xs)) × (all fitsRow (map keyEntry xs) ≡ true)
 back-all nil = (refl, refl)
 back-all (cons {x = x} h a) =
     let r = back-all a in
     (ap₂ _∷_ (sym (entry-back x h)) (r .0), and-both (entry-fits x h) (r .1))
 
 -- OF A TRIE of keys of entries
-pub keys-of-entries : (t : Forest) → All Dimensions.Entry (keys [] t) → (keys [] t ≡ map entryKey (entriesOf t)) × (all fitsRow (entriesOf t) ≡ true)
+pub keys-of-entries : (t : Forest) → All Dimensions.OfEntry (keys [] t) → (keys [] t ≡ map entryKey (entriesOf t)) × (all fitsRow (entriesOf t) ≡ true)
 unfolding entriesOf
 keys-of-entries t a = back-all a

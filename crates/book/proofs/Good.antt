@@ -9,7 +9,7 @@ use Rattle.rows.specs.Order.{entryOrder}
 use Rattle.rows.specs.Sorted.{sorted}
 use Rattle.rows.proofs.Sorted.{all-sorted}
 use Rattle.trie_theory.specs.Dimensions.{root}
-use Rattle.trie_theory.specs.Sound.{Ascending, Bare}
+use Rattle.trie_theory.specs.Sound.{Ascending, EmptySuffixes}
 use Rattle.trie_theory.specs.SmallTrie.{smallTrie}
 use Rattle.trie_theory.proofs.TrieOf.{level-entries, small-entries, figures}
 use Rattle.entries.specs.Keys.{entryKey}
@@ -22,7 +22,7 @@ use Rattle.book.proofs.Image.{level-formed, small-formed, small-trie-of
 use Rattle.book.proofs.OverTries.{small-for, level-for}
 
 module _ (es : List Entry) (h : all formed es ≡ true) where
-  small-shape : Ascending root (smallTrie (map entryKey es)) × Bare (smallTrie (map entryKey es))
+  small-shape : Ascending root (smallTrie (map entryKey es)) × EmptySuffixes (smallTrie (map entryKey es))
   small-shape = let r = small-entries (map entryKey es) (keys-entries es h) in (r .1, r .2)
 
   level-ascending : (τ : ℕ) → Ascending root (levelTrie τ es)
@@ -38,7 +38,7 @@ tries-good b s =
     let fit = image-fits b s in
     record {
       small = record { sound = g .sound; ascending = small-shape es f .0; entries = g .entries; high = figures (small-trie-of es f) .1; fits = fit .small };
-      bare = small-shape es f .1;
+      empty-suffixes = small-shape es f .1;
       levels = λ i l.
           (let ds = level (b .M) i (b .entries) in
           let k = level-formed (b .M) i (b .entries) (s .formed) in

@@ -21,7 +21,7 @@ use Rattle.trie_theory.specs.TrieOf.{TrieOf}
 use Rattle.trie_theory.proofs.TrieOf.{level-entries, small-entries, figures}
 use Rattle.entries.specs.Keys.{entryKey}
 use Rattle.book.specs.Front.{Front, frontSize, frontRoom, entryRoom, frontBytes, inLimits, need}
-use Rattle.book.specs.Digits.{digit, rounds, levelSize, levelStart, level, small}
+use Rattle.book.specs.Digits.{digit, quotient, levelSize, levelStart, level, small}
 use Rattle.book.specs.Book.{Book, Sound, front, formed}
 use Rattle.book.specs.Tries.{Tries, levelTrie, tries}
 use Rattle.book.specs.Image.{padded, regions, storeOf, image}
@@ -38,14 +38,14 @@ level-formed m i es a = tested-take formed (levelSize m i es) (drop (levelStart 
 
 pub small-formed : (m : ℕ) (es : List Entry) → all formed es ≡ true → all formed (small m es) ≡ true
 unfolding small
-small-formed m es a = tested-drop formed (m * rounds m es) es a
+small-formed m es a = tested-drop formed (m * quotient m es) es a
 
 -- a level has no more entries than its region has kilobytes
 pub level-few : (m i : ℕ) (es : List Entry) → length (level m i es) ≤ m * 2 ^ i
 unfolding digit
 level-few m i es =
-    let d : digit i (rounds m es) ≤ 1 = omega arith in
-    rw (level-length m i es) (subst (λ (x : ℕ). m * 2 ^ i * digit i (rounds m es) ≤ x) (mul-one (m * 2 ^ i)) (mul-le-mul-left (m * 2 ^ i) d))
+    let d : digit i (quotient m es) ≤ 1 = omega arith in
+    rw (level-length m i es) (subst (λ (x : ℕ). m * 2 ^ i * digit i (quotient m es) ≤ x) (mul-one (m * 2 ^ i)) (mul-le-mul-left (m * 2 ^ i) d))
 
 -- ---- the tries
 

@@ -104,7 +104,7 @@ pub path-short : (e : Entry) → Formed e → length (e .path) ≤ pathLimit
 path-short e f = not-long (e .path) (f .path)
 
 -- THE KEY OF A FORMED ENTRY
-pub entry-key : (e : Entry) → formed e ≡ true → Dimensions.Entry (entryKey e)
+pub entry-key : (e : Entry) → formed e ≡ true → Dimensions.OfEntry (entryKey e)
 unfolding entryKey complete dims isValue
 entry-key e h =
     let f = as-formed e h in
@@ -116,7 +116,7 @@ entry-key e h =
       named = f .twenty;
     }
 
-pub keys-entries : (es : List Entry) → all formed es ≡ true → All Dimensions.Entry (map entryKey es)
+pub keys-entries : (es : List Entry) → all formed es ≡ true → All Dimensions.OfEntry (map entryKey es)
 keys-entries es h = all-map entryKey entry-key (all-tested formed es h)
 
 -- its row has room for it
@@ -149,12 +149,12 @@ bytes-all (cons h a) = and-both (all-test byte (all-imp (λ b l. lt-ltb b 256 l)
 all-bytes : (ss : List (List ℕ)) → all (all byte) ss ≡ true → All (All (λ b. b < 256)) ss
 all-bytes ss e = all-imp (λ s t. all-imp (λ b l. ltb-true b 256 l) (all-tested byte s t)) (all-tested (all byte) ss e)
 
-pub entry-tested : (x : Key) → Dimensions.Entry x → isEntry x ≡ true
+pub entry-tested : (x : Key) → Dimensions.OfEntry x → isEntry x ≡ true
 unfolding isEntry
 entry-tested x e =
     and-both (e .whole) (and-both (le-leb (length (at 1 (x .strings))) 201 (e .short)) (and-both (bytes-all (e .bytes)) (eq-eqb (length (x .reference)) 20 (e .named))))
 
-pub tested-entry : (x : Key) → isEntry x ≡ true → Dimensions.Entry x
+pub tested-entry : (x : Key) → isEntry x ≡ true → Dimensions.OfEntry x
 unfolding isEntry
 tested-entry x h =
     let a = complete dims (x .strings) in
@@ -171,7 +171,7 @@ tested-entry x h =
     }
 
 -- the value of a key of an entry is of bytes
-pub entry-valued : (x : Key) → Dimensions.Entry x → all byte (at 0 (x .strings)) ≡ true
+pub entry-valued : (x : Key) → Dimensions.OfEntry x → all byte (at 0 (x .strings)) ≡ true
 entry-valued x e = go (x .strings) (e .bytes)
   where
     go : (ss : List (List ℕ)) → All (All (λ b. b < 256)) ss → all byte (at 0 ss) ≡ true

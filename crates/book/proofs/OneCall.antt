@@ -94,7 +94,7 @@ pub record Agrees (b : Book) (c : Call) (r : Result) (after : List ℕ) : Type 0
   pub result : r ≡ step b c .result
   pub holds : HoldsBook after (step b c .book)
 
-result-of : (r : Result) {a : Reply} {x : List ℕ} → r .reply ≡ a → r .answer ≡ x → r ≡ result a x
+pub result-of : (r : Result) {a : Reply} {x : List ℕ} → r .reply ≡ a → r .answer ≡ x → r ≡ result a x
 result-of r p q = λ i. record { reply = p i; answer = q i }
 
 -- an accepted setup, on whatever memory and whatever the book was

@@ -63,7 +63,7 @@ pub record TrieFor (es : List Entry) (t : Forest) : Type 0 where
   pub kept : (p : Key → Bool) → count p (keys [] t) ≡ count (λ e. p (entryKey e)) es
   pub lookup : (e : Entry) → member root t (entryKey e) ≡ has es e
   pub sound : Trie.Sound 2 root t
-  pub entries : All Dimensions.Entry (keys [] t)
+  pub entries : All Dimensions.OfEntry (keys [] t)
 
 trie-for : (es xs : List Entry) (t : Forest) → all formed xs ≡ true → ((p : Entry → Bool) → count p xs ≡ count p es) → ((e : Entry) → has xs e ≡ has es e)
     → TrieOf 2 209 (map entryKey xs) t → TrieFor es t

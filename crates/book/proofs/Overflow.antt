@@ -10,7 +10,7 @@ use lib.Seq.{take-append-le, drop-append-le, take-all}
 use lib.Pow.{pow-pos, pow-add}
 use lib.Arith.{digits-div, mod-mul}
 use Rattle.rows.specs.Entry.{Entry}
-use Rattle.book.specs.Digits.{digit, rounds, levelSize, levelStart, level, small}
+use Rattle.book.specs.Digits.{digit, quotient, levelSize, levelStart, level, small}
 use Rattle.book.specs.Overflow.{fromHighest, Stays, Overflows, Rule-Of-Overflow}
 use Rattle.book.proofs.Digits.{begin, begin-step, begin-held, below}
 
@@ -61,16 +61,16 @@ module _ (j n : ℕ) (empty : digit j n ≡ 0) (others : (i : ℕ) → i < j →
       rw d (mul-mod-left (q * 2 ^ k) 2)
 
 -- the entries of a list that go into a level stay those when one more is added behind them
-held-back : (m : ℕ) (es : List Entry) → m * rounds m es ≤ length es
-unfolding rounds
+held-back : (m : ℕ) (es : List Entry) → m * quotient m es ≤ length es
+unfolding quotient
 held-back m es = subst (λ (x : ℕ). x ≤ length es) (mul-comm (length es / m) m) (div-mul-le-self (length es) m)
 
 level-stays :
-    (m i : ℕ) (es : List Entry) (e : Entry) → digit i (rounds m (es ++ (e ∷ []))) ≡ digit i (rounds m es) →
-    rounds m (es ++ (e ∷ [])) / 2 ^ suc i ≡ rounds m es / 2 ^ suc i → level m i (es ++ (e ∷ [])) ≡ level m i es
+    (m i : ℕ) (es : List Entry) (e : Entry) → digit i (quotient m (es ++ (e ∷ []))) ≡ digit i (quotient m es) →
+    quotient m (es ++ (e ∷ [])) / 2 ^ suc i ≡ quotient m es / 2 ^ suc i → level m i (es ++ (e ∷ [])) ≡ level m i es
 unfolding level levelSize levelStart begin
 level-stays m i es e d q =
-    let n = rounds m es in
+    let n = quotient m es in
     let size = m * 2 ^ i * digit i n in
     let start = m * 2 ^ suc i * (n / 2 ^ suc i) in
     let h₁ : start + size ≡ begin m i n = begin-step m i n in
@@ -81,53 +81,53 @@ level-stays m i es e d q =
 
 -- how many the small trie has
 pub small-length : (m : ℕ) (es : List Entry) → length (small m es) ≡ length es % m
-unfolding small rounds
+unfolding small quotient
 small-length m es =
     rw (length-drop (m * (length es / m)) es, mul-comm m (length es / m)) (omega (arith, div-add-mod' (length es) m))
 
 -- an addition that leaves the small trie below M entries
 pub stays : (m : ℕ) (es : List Entry) (e : Entry) → length (small m es) + 1 < m → Stays m es e
-unfolding rounds small
+unfolding quotient small
 stays m es e h =
     let one = e ∷ [] in
-    let r : rounds m (es ++ one) ≡ rounds m es = ap (λ (x : ℕ). x / m) (length-append es one) ∙ quotient-stays (length es) m (subst (λ (x : ℕ). x + 1 < m) (small-length m es) h) in
+    let r : quotient m (es ++ one) ≡ quotient m es = ap (λ (x : ℕ). x / m) (length-append es one) ∙ quotient-stays (length es) m (subst (λ (x : ℕ). x + 1 < m) (small-length m es) h) in
     record {
       levels = λ i. level-stays m i es e (ap (digit i) r) (ap (λ (x : ℕ). x / 2 ^ suc i) r);
-      last = ap (λ (x : ℕ). drop (m * x) (es ++ one)) r ∙ drop-append-le (m * rounds m es) es one (held-back m es);
+      last = ap (λ (x : ℕ). drop (m * x) (es ++ one)) r ∙ drop-append-le (m * quotient m es) es one (held-back m es);
     }
 
 -- held + 1 is M × (rounds + 1)
-pub round-full : (m : ℕ) (es : List Entry) → length (small m es) + 1 ≡ m → length es + 1 ≡ m * (rounds m es + 1)
-unfolding rounds
+pub round-full : (m : ℕ) (es : List Entry) → length (small m es) + 1 ≡ m → length es + 1 ≡ m * (quotient m es + 1)
+unfolding quotient
 round-full m es h =
     omega
     (arith, div-add-mod' (length es) m, small-length m es, mul-add m (length es / m) 1, mul-one m, mul-comm m (length es / m))
 
-round-more : (m : ℕ) (es : List Entry) (e : Entry) → length (small m es) + 1 ≡ m → rounds m (es ++ (e ∷ [])) ≡ rounds m es + 1
-unfolding rounds
+round-more : (m : ℕ) (es : List Entry) (e : Entry) → length (small m es) + 1 ≡ m → quotient m (es ++ (e ∷ [])) ≡ quotient m es + 1
+unfolding quotient
 round-more m es e h =
     ap (λ (x : ℕ). x / m) (length-append es (e ∷ []))
     ∙ quotient-rises (length es) m (omega arith) (subst (λ (x : ℕ). x + 1 ≡ m) (small-length m es) h)
 
 module _
-    (m j : ℕ) (es : List Entry) (e : Entry) (h : length (small m es) + 1 ≡ m) (empty : digit j (rounds m es) ≡ 0)
-    (others : (i : ℕ) → i < j → digit i (rounds m es) ≡ 1) where
+    (m j : ℕ) (es : List Entry) (e : Entry) (h : length (small m es) + 1 ≡ m) (empty : digit j (quotient m es) ≡ 0)
+    (others : (i : ℕ) → i < j → digit i (quotient m es) ≡ 1) where
   -- where level j begins, before and after
-  begin-same : begin m (suc j) (rounds m es) ≡ begin m j (rounds m es)
-  begin-same = omega (arith, begin-step m j (rounds m es), ap (λ (x : ℕ). m * 2 ^ j * x) empty, mul-zero (m * 2 ^ j))
+  begin-same : begin m (suc j) (quotient m es) ≡ begin m j (quotient m es)
+  begin-same = omega (arith, begin-step m j (quotient m es), ap (λ (x : ℕ). m * 2 ^ j * x) empty, mul-zero (m * 2 ^ j))
 
   -- the entries from there on, with the new one, fill level j
-  fill : length es + 1 ≡ begin m j (rounds m es) + m * 2 ^ j
+  fill : length es + 1 ≡ begin m j (quotient m es) + m * 2 ^ j
   unfolding begin
   fill =
-      let n = rounds m es in
+      let n = quotient m es in
       round-full m es h ∙ ap (λ (x : ℕ). m * x) (risen j n empty others ∙ mul-comm (n / 2 ^ j + 1) (2 ^ j))
       ∙ sym (mul-assoc m (2 ^ j) (n / 2 ^ j + 1)) ∙ mul-add (m * 2 ^ j) (n / 2 ^ j) 1 ∙ ap (λ (x : ℕ). m * 2 ^ j * (n / 2 ^ j) + x) (mul-one (m * 2 ^ j))
 
   into-level : level m j (es ++ (e ∷ [])) ≡ fromHighest m j es ++ (e ∷ [])
   unfolding level levelSize levelStart
   into-level =
-      let n = rounds m es in
+      let n = quotient m es in
       let one = e ∷ [] in
       let from = begin m j n in
       let bound : from ≤ length es = omega (arith, begin-held m j n, held-back m es) in
@@ -136,18 +136,18 @@ module _
       rw (round-more m es e h, digit-set j n empty others, start-stays j n empty others)
       (ap (λ (k : ℕ). take (m * 2 ^ j * 1) (drop k (es ++ one))) (begin-here ∙ begin-same) ∙ ap (take (m * 2 ^ j * 1)) tail ∙ take-all (m * 2 ^ j * 1) _ size)
     where
-      begin-here : m * 2 ^ suc j * (rounds m es / 2 ^ suc j) ≡ begin m (suc j) (rounds m es)
+      begin-here : m * 2 ^ suc j * (quotient m es / 2 ^ suc j) ≡ begin m (suc j) (quotient m es)
       begin-here = unfold begin in refl
 
   lower-empty : (i : ℕ) → i < j → level m i (es ++ (e ∷ [])) ≡ []
   unfolding level levelSize
   lower-empty i l =
-      rw (round-more m es e h, lower-clear j (rounds m es) empty others i (j - suc i) (omega arith), mul-zero (m * 2 ^ i))
+      rw (round-more m es e h, lower-clear j (quotient m es) empty others i (j - suc i) (omega arith), mul-zero (m * 2 ^ i))
 
   higher-same : (i : ℕ) → j < i → level m i (es ++ (e ∷ [])) ≡ level m i es
   unfolding digit
   higher-same i l =
-      let n = rounds m es in
+      let n = quotient m es in
       let r = round-more m es e h in
       let q : (n + 1) / 2 ^ i ≡ n / 2 ^ i = subst (λ (x : ℕ). (n + 1) / 2 ^ x ≡ n / 2 ^ x) (let z : suc j + (i - suc j) ≡ i = omega arith in z) (higher-stay j n empty others (i - suc j)) in
       let q′ : (n + 1) / 2 ^ suc i ≡ n / 2 ^ suc i = subst (λ (x : ℕ). (n + 1) / 2 ^ x ≡ n / 2 ^ x) (let z : suc j + (i - j) ≡ suc i = omega arith in z) (higher-stay j n empty others (i - j)) in
@@ -157,7 +157,7 @@ module _
   unfolding small
   small-emptied =
       rw (round-more m es e h)
-      (drop-of-length-le (es ++ (e ∷ [])) {i = m * (rounds m es + 1)} (rw (length-append es (e ∷ [])) (omega (arith, round-full m es h))))
+      (drop-of-length-le (es ++ (e ∷ [])) {i = m * (quotient m es + 1)} (rw (length-append es (e ∷ [])) (omega (arith, round-full m es h))))
 
   pub overflows : Overflows m j es e
   overflows = record { into = into-level; lower = lower-empty; higher = higher-same; emptied = small-emptied }

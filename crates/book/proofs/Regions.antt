@@ -7,10 +7,10 @@ use native.Mathlib.Nat.{zero-add, add-zero, add-suc, mul-assoc, mul-le-mul-left,
 use lib.Pow.{pow-pos, pow-mono}
 use Rattle.buffer.proofs.Digits.{length-bytesOf}
 use lib.ListN.{length, take, drop, replicate, length-append, take-append-drop}
-use lib.Seq.{take-at, drop-at, take-append-le, drop-append-le, take-take, length-take-le}
+use lib.Seq.{take-at, drop-at, take-append-le, drop-append-le}
 use Rattle.buffer.specs.Splice.{splice, region}
 use Rattle.buffer.specs.Numbers.{bytesOf}
-use Rattle.buffer.proofs.Splice.{splice-is, length-splice, region-drop}
+use Rattle.buffer.proofs.Splice.{splice-is, length-splice, region-take}
 use Rattle.trie_theory.specs.Encode.{encode}
 use Rattle.book.specs.Front.{Front, frontSize, heldAt, frontRoom, entryRoom, frontBytes, holding, need}
 use Rattle.book.specs.Tries.{Tries}
@@ -44,13 +44,6 @@ write-through s x o b e h =
     let n : length y ≡ length x = length-splice x o b h in
     let left : splice s o b ≡ y ++ r = ap (λ (l : List ℕ). splice l o b) whole ∙ splice-append x r o b h in
     left ∙ sym (splice-is s 0 y ∙ ap (λ (k : ℕ). y ++ drop k s) (zero-add (length y) ∙ n))
-
--- a region within the first bytes of a list
-pub region-take : (s : List ℕ) (k o n : ℕ) → o + n ≤ k → k ≤ length s → region s o n ≡ region (take k s) o n
-region-take s k o n h l =
-    region-drop s o n (omega arith)
-    ∙ ap (drop o) (sym (take-take (o + n) k s h))
-    ∙ sym (region-drop (take k s) o n (rw (length-take-le k s l) (omega arith)))
 
 -- ---- a store in three parts
 

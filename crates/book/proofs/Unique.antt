@@ -20,7 +20,7 @@ use Rattle.trie_theory.specs.Dimensions.{root}
 use Rattle.trie_theory.specs.Sound as Trie
 use Rattle.trie_theory.specs.Sound.{Wide}
 use Rattle.trie_theory.specs.Encode.{suffixBytes, nodeBytes, encode, Twenty, Regular}
-use Rattle.trie_theory.proofs.SoundLaws.{root-alone}
+use Rattle.trie_theory.proofs.SoundLaws.{root-single}
 use Rattle.trie_theory.proofs.Encode.{sound-regular, node-parts, encode-injective}
 use Rattle.rows.specs.Entry.{Entry}
 use Rattle.book.specs.Front.{Front, entryRoom}
@@ -76,7 +76,7 @@ rooted n (leaf t ts more) s r =
       kind = 0;
       strings = t;
       body = flat (map suffixBytes ts);
-      bytes = ap (λ (f : Forest). nodeBytes 0 t (flat (map suffixBytes ts)) ++ encode f) (root-alone n t more (s .0)) ∙ append-nil (nodeBytes 0 t (flat (map suffixBytes ts)));
+      bytes = ap (λ (f : Forest). nodeBytes 0 t (flat (map suffixBytes ts)) ++ encode f) (root-single n t more (s .0)) ∙ append-nil (nodeBytes 0 t (flat (map suffixBytes ts)));
       wide = r .0;
       seen = λ z. suffixes-long n (s .1) (r .1);
     })
@@ -85,7 +85,7 @@ rooted n (inner d t kids more) s r =
       kind = suc d;
       strings = t;
       body = encode kids;
-      bytes = ap (λ (f : Forest). nodeBytes (suc d) t (encode kids) ++ encode f) (root-alone n t more (s .0)) ∙ append-nil (nodeBytes (suc d) t (encode kids));
+      bytes = ap (λ (f : Forest). nodeBytes (suc d) t (encode kids) ++ encode f) (root-single n t more (s .0)) ∙ append-nil (nodeBytes (suc d) t (encode kids));
       wide = r .0;
       seen = λ z. absurd (omega arith);
     })

@@ -18,7 +18,7 @@ use Rattle.trie_theory.specs.SmallTrie.{added}
 use Rattle.trie_theory.specs.Encode.{encode}
 use Rattle.entries.specs.Keys.{entryKey}
 use Rattle.book.specs.Front.{Front, frontRoom, entryRoom, frontBytes, need, heldAt, holding}
-use Rattle.book.specs.Digits.{digit, rounds, small}
+use Rattle.book.specs.Digits.{digit, quotient, small}
 use Rattle.book.specs.Book.{Book, Sound, held, front, put, formed}
 use Rattle.book.specs.Tries.{Tries, levelTrie, tries}
 use Rattle.book.specs.FromTries.{entriesIn}
@@ -83,8 +83,8 @@ module _ (b : Book) (e : Entry) (s : Sound b) where
 
   -- It comes to M entries, and level j is the first empty one: zeros up to level j, and there the trie of all that was gathered, in whatever
   -- sequence, and the held number
-  pub add-level : formed e ≡ true → (j : ℕ) → j < b .L → length (small (b .M) (b .entries)) + 1 ≡ b .M → digit j (rounds (b .M) (b .entries)) ≡ 0
-      → ((i : ℕ) → i < j → digit i (rounds (b .M) (b .entries)) ≡ 1) → (xs : List Entry)
+  pub add-level : formed e ≡ true → (j : ℕ) → j < b .L → length (small (b .M) (b .entries)) + 1 ≡ b .M → digit j (quotient (b .M) (b .entries)) ≡ 0
+      → ((i : ℕ) → i < j → digit i (quotient (b .M) (b .entries)) ≡ 1) → (xs : List Entry)
       → ((p : Entry → Bool) → count p xs ≡ count p (entriesIn j (tries b) ++ (e ∷ [])))
       → let n = entryRoom * b .M * 2 ^ j in
       splice (splice (image b) smallAt (replicate n 0 ++ padded n (encode (levelTrie (b .τ) xs)))) heldAt (bytesOf 4 (held b + 1)) ≡ image (put e b)

@@ -16,7 +16,7 @@ use Rattle.trie_theory.specs.Encode.{suffixBytes, nodeBytes, encode}
 use Rattle.entries.specs.Keys.{entryKey}
 use Rattle.entries.specs.Query.{inRange, matchesEntry, lowest, highest, overlaps, valueReach, reaches, wants}
 use Rattle.book.specs.Front.{frontBytes, inLimits, need, capacity, noStore, full}
-use Rattle.book.specs.Digits.{digit, rounds, levelSize, levelStart, level, small}
+use Rattle.book.specs.Digits.{digit, quotient, levelSize, levelStart, level, small}
 use Rattle.book.specs.Tries.{every, levelTrie, tries}
 use Rattle.book.specs.Searching.{matching, nodesOf, nodes}
 use Rattle.book.specs.Records.{stepBytes, walkBytes, recordOf, levelRead, records}
@@ -31,7 +31,7 @@ of-entries = 0
 
 -- the book's tries, and its step
 unfoldable pub of-a-book : ℕ
-unfolding of-entries of-a-level of-a-search inLimits need capacity noStore full digit rounds levelSize levelStart level small every levelTrie tries matching nodesOf nodes stepBytes walkBytes recordOf levelRead records setupNumber addNumber searchNumber readNumber fill list step answers
+unfolding of-entries of-a-level of-a-search inLimits need capacity noStore full digit quotient levelSize levelStart level small every levelTrie tries matching nodesOf nodes stepBytes walkBytes recordOf levelRead records setupNumber addNumber searchNumber readNumber fill list step answers
 of-a-book = 0
 
 -- the bytes of its store

@@ -9,16 +9,16 @@ unfoldable pub digit : ℕ → ℕ → ℕ
 digit i n = (n / 2 ^ i) % 2
 
 -- held ÷ M, rounded down
-unfoldable pub rounds : ℕ → List Entry → ℕ
-rounds m es = length es / m
+unfoldable pub quotient : ℕ → List Entry → ℕ
+quotient m es = length es / m
 
 -- level i has M × 2^i entries where digit i of held ÷ M is 1, and none otherwise
 unfoldable pub levelSize : ℕ → ℕ → List Entry → ℕ
-levelSize m i es = m * 2 ^ i * digit i (rounds m es)
+levelSize m i es = m * 2 ^ i * digit i (quotient m es)
 
 -- oldest in the highest: before the entries of level i stand those of all higher levels
 unfoldable pub levelStart : ℕ → ℕ → List Entry → ℕ
-levelStart m i es = m * 2 ^ suc i * (rounds m es / 2 ^ suc i)
+levelStart m i es = m * 2 ^ suc i * (quotient m es / 2 ^ suc i)
 
 -- the entries of level i, oldest first
 unfoldable pub level : ℕ → ℕ → List Entry → List Entry
@@ -26,4 +26,4 @@ level m i es = take (levelSize m i es) (drop (levelStart m i es) es)
 
 -- the last entries, as many as held ÷ M leaves over: the small trie's
 unfoldable pub small : ℕ → List Entry → List Entry
-small m es = drop (m * rounds m es) es
+small m es = drop (m * quotient m es) es

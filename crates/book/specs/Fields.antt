@@ -12,8 +12,8 @@ use Rattle.entries.specs.Query.{valueReach}
 use Rattle.book.specs.Computing.{of-a-book}
 
 -- yes is 1, no is 0
-abbrev told : Bool → List ℕ
-told b = cond b 1 0 ∷ []
+abbrev asNumber : Bool → List ℕ
+asNumber b = cond b 1 0 ∷ []
 
 -- seven zero value bytes can be continued to a value from low to high
 abbrev zeros-reach : ℕ → ℕ → Bool
@@ -26,13 +26,13 @@ fields =
     -- P4 key 9 with τ 2: sets of 9, 4, 3, 2 keys; by V (1), path (2), V, then a leaf (0)
     ∷ line (map (λ (t : Step). t .amount) way) (9 ∷ 4 ∷ 3 ∷ 2 ∷ []) ∷ line (map (λ (t : Step). t .kind) way) (1 ∷ 2 ∷ 1 ∷ 0 ∷ [])
     -- P5 `/**/pond*/*.c` fits `/north/pond3/map.c`. P6 not `/north/pond3/sub/map.c`
-    ∷ line (told (decided p5)) (1 ∷ []) ∷ line (told (decided p6)) (0 ∷ [])
+    ∷ line (asNumber (decided p5)) (1 ∷ []) ∷ line (asNumber (decided p6)) (0 ∷ [])
     -- P7 `/a*a` does not fit `/a`. P8 it fits `/aa`. P9 `/north/**` fits `/north`
-    ∷ line (told (decided p7)) (0 ∷ []) ∷ line (told (decided p8)) (1 ∷ []) ∷ line (told (decided p9)) (1 ∷ [])
+    ∷ line (asNumber (decided p7)) (0 ∷ []) ∷ line (asNumber (decided p8)) (1 ∷ []) ∷ line (asNumber (decided p9)) (1 ∷ [])
     -- P10 `/gs/` cannot be continued for `/fs/*`
-    ∷ line (told (decided p10)) (0 ∷ [])
+    ∷ line (asNumber (decided p10)) (0 ∷ [])
     -- P11 seven zero value bytes cannot for 256 to 300. P12 they can for 255 to 300
-    ∷ line (told (zeros-reach 256 300)) (0 ∷ []) ∷ line (told (zeros-reach 255 300)) (1 ∷ []) ∷ []
+    ∷ line (asNumber (zeros-reach 256 300)) (0 ∷ []) ∷ line (asNumber (zeros-reach 255 300)) (1 ∷ []) ∷ []
 
 -- EVERY LINE IS AS PRINTED
 pub fields-hold : map (λ (l : Line). l .computed) fields ≡ map (λ (l : Line). l .printed) fields

@@ -19,14 +19,14 @@ use Rattle.book.specs.Tries.{Tries, dimensions, tries}
 pub record Good (room : ℕ) (t : Forest) : Type 0 where
   pub sound : Trie.Sound dimensions root t
   pub ascending : Trie.Ascending root t
-  pub entries : All Key.Entry (keys [] t)
+  pub entries : All Key.OfEntry (keys [] t)
   pub high : height t ≤ nodeLimit
   pub fits : length (encode t) ≤ room
 
 -- the small trie has one path and value per leaf
 pub record GoodTries (f : Front) (t : Tries) : Type 0 where
   pub small : Good (entryRoom * f .M) (t .small)
-  pub bare : Trie.Bare (t .small)
+  pub empty-suffixes : Trie.EmptySuffixes (t .small)
   pub levels : (i : ℕ) → i < f .L → Good (entryRoom * f .M * 2 ^ i) (t .level i)
 
 abbrev pub Tries-Good : Type 0

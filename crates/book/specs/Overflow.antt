@@ -4,7 +4,7 @@ use mathlib.Core.Path.{_≡_}
 use mathlib.Core.List.{List, [], _∷_, _++_}
 use lib.ListN.{length}
 use Rattle.rows.specs.Entry.{Entry}
-use Rattle.book.specs.Digits.{digit, rounds, level, small}
+use Rattle.book.specs.Digits.{digit, quotient, level, small}
 
 -- the entries of the levels below l, the highest first, then the small trie's: oldest first
 unfoldable pub fromHighest : ℕ → ℕ → List Entry → List Entry
@@ -27,4 +27,4 @@ abbrev pub Rule-Of-Overflow : Type 0
 Rule-Of-Overflow =
     (m : ℕ) (es : List Entry) (e : Entry) →
     (length (small m es) + 1 < m → Stays m es e)
-    × ((j : ℕ) → length (small m es) + 1 ≡ m → digit j (rounds m es) ≡ 0 → ((i : ℕ) → i < j → digit i (rounds m es) ≡ 1) → Overflows m j es e)
+    × ((j : ℕ) → length (small m es) + 1 ≡ m → digit j (quotient m es) ≡ 0 → ((i : ℕ) → i < j → digit i (quotient m es) ≡ 1) → Overflows m j es e)

@@ -8,14 +8,16 @@ use Rattle.buffer.specs.Lists.{flat}
 use Rattle.rows.specs.Sizes.{recordSize}
 use Rattle.rows.specs.Entry.{Entry, row}
 use Rattle.buffer.specs.Text.{text}
+use Rattle.trie_theory.specs.Search.{nodesIn}
 use Rattle.entries.specs.Query.{asked}
 use Rattle.book.specs.Digits.{level, small}
 use Rattle.book.specs.Book.{Book, blank, fresh}
 use Rattle.book.specs.Tries.{levelTrie}
 use Rattle.book.specs.Replies.{Reply, reply, Result}
 use Rattle.book.specs.Calls.{Call, setup, add, search, readLevel}
-use Rattle.book.specs.Step.{step, answers}
+use Rattle.book.specs.Step.{step, answers, after}
 use Rattle.book.specs.Image.{image}
+use Rattle.book.specs.InWords.{nodesOfTries}
 use Rattle.book.specs.Computing.{of-a-book, of-an-image}
 
 -- an entry with a reference of 19 zeros and one byte
@@ -40,6 +42,11 @@ listing-replies = refl
 pub listing-row : map (λ (r : Result). r .answer) (answers blank listing) ≡ [] ∷ [] ∷ [] ∷ [] ∷ (row (entry "/north/edge" 7 1) ++ (170 ∷ [])) ∷ []
 unfolding of-a-book
 listing-row = refl
+
+-- its search enters four of the five nodes: the leaf of value 9 is passed over
+pub listing-nodes : length (nodesOfTries (after blank (take 4 listing))) ≡ 5
+unfolding of-a-book nodesOfTries nodesIn after
+listing-nodes = refl
 
 -- the book 4, 2, 1 with one entry
 abbrev one : Book

@@ -1,5 +1,5 @@
 -- Laws of small words about lists: what holds of every element, what some element passes, what is picked, equal lists, parts.
-use Prim.Native.Nat.{ℕ, _-_, _≤_}
+use Prim.Native.Nat.{ℕ, zero, suc, _-_, _≤_}
 use Rattle.buffer.proofs.Tests.{and-left, and-right, and-both, or-right}
 use mathlib.Core.Path.{_≡_, refl, sym, ap, ap₂, _∙_}
 use mathlib.Core.Bool.{Bool, true, false, cond, _||_, false≢true}
@@ -120,6 +120,11 @@ map-agree (cons h a) = ap₂ _∷_ h (map-agree a)
 pub map-same : {A : Type 0} (xs : List A) → map (λ x. x) xs ≡ xs
 map-same [] = refl
 map-same (x ∷ xs) = ap (λ (l : List _). x ∷ l) (map-same xs)
+
+pub map-take : {A B : Type 0} (f : A → B) (n : ℕ) (xs : List A) → map f (take n xs) ≡ take n (map f xs)
+map-take f zero xs = refl
+map-take f (suc n) [] = refl
+map-take f (suc n) (x ∷ xs) = ap (λ (l : List _). f x ∷ l) (map-take f n xs)
 
 pub flat-append : {A : Type 0} (xs ys : List (List A)) → flat (xs ++ ys) ≡ flat xs ++ flat ys
 unfolding flat

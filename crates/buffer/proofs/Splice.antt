@@ -64,6 +64,13 @@ region-drop s o n h =
     let k : length (take o s) ≡ o = length-take-le o s h in
     rw take-add (sym (drop-at (take o s) _ o k))
 
+-- a region within the first bytes of a list
+pub region-take : (s : List ℕ) (k o n : ℕ) → o + n ≤ k → k ≤ length s → region s o n ≡ region (take k s) o n
+region-take s k o n h l =
+    region-drop s o n (omega arith)
+    ∙ ap (drop o) (sym (take-take (o + n) k s h))
+    ∙ sym (region-drop (take k s) o n (rw (length-take-le k s l) (omega arith)))
+
 module _ (s : List ℕ) (o : ℕ) (b : List ℕ) (fit : o + length b ≤ length s) where
   -- a region before it, or after it, is as it was; at it, it is b
   pub region-before : (a n : ℕ) → a + n ≤ o → region (splice s o b) a n ≡ region s a n

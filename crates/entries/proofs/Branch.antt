@@ -27,7 +27,7 @@ use Rattle.rows.specs.Entry.{Entry}
 use Rattle.trie_theory.specs.Forest.{Strings, Key}
 use Rattle.trie_theory.specs.Strings.{at}
 use Rattle.trie_theory.specs.Strings as Bytes
-use Rattle.trie_theory.proofs.Prefix.{Prefix, goesOn-prefixes, prefixes-at}
+use Rattle.trie_theory.proofs.Prefix.{Prefix, allBegin-prefixes, prefixes-at}
 use Rattle.trie_theory.proofs.Strings.{drop-prefix}
 use Rattle.entries.specs.Keys.{entryKey}
 use Rattle.entries.specs.Query.{Query, inRange, matchesEntry, lowest, highest, overlaps, valueReach, isMatch, reaches, wants}
@@ -189,18 +189,18 @@ path-before pattern k s h c =
     }
 
 -- what can be continued could be continued before
-pub reaches-before : (q : Query) (k s : Strings) → Bytes.goesOn k s ≡ true → all byte (at 0 s) ≡ true → reaches q s ≡ true → reaches q k ≡ true
+pub reaches-before : (q : Query) (k s : Strings) → Bytes.allBegin k s ≡ true → all byte (at 0 s) ≡ true → reaches q s ≡ true → reaches q k ≡ true
 unfolding reaches
 reaches-before q k s g bytes e =
     let v = goesOn (valueReach q (at 0 s)) in
     let p = goesOn (reachOf (q .pattern) (at 1 s)) in
-    let h = goesOn-prefixes k s g in
+    let h = allBegin-prefixes k s g in
     let c = value-before q (at 0 k) (at 0 s) (prefixes-at 0 k s h) (value-found q (at 0 s) bytes (sym (goesOn-value q (at 0 s)) ∙ and-left v p e)) in
     let d = path-before (q .pattern) (at 1 k) (at 1 s) (prefixes-at 1 k s h) (continued (q .pattern) (at 1 s) (and-right v p e)) in
     and-both (goesOn-value q (at 0 k) ∙ value-tested q (at 0 k) c) (goesOn-path (q .pattern) (at 1 k) d)
 
 -- A KEY THAT MATCHES IS NEVER PASSED OVER: whatever it goes on from can be continued
-pub never-passed : (q : Query) (k : Strings) (x : Key) → all byte (at 0 (x .strings)) ≡ true → Bytes.goesOn k (x .strings) ≡ true
+pub never-passed : (q : Query) (k : Strings) (x : Key) → all byte (at 0 (x .strings)) ≡ true → Bytes.allBegin k (x .strings) ≡ true
     → wants q x ≡ true → reaches q k ≡ true
 unfolding wants
 never-passed q k x bytes g e =

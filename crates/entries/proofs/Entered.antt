@@ -12,11 +12,11 @@ use Rattle.buffer.proofs.Tests.{and-left, and-right, and-both}
 use Rattle.buffer.proofs.Lists.{all-imp, all-append, all-left, all-right, all-head, tested-left}
 use Rattle.buffer.proofs.Sums.{count-agree}
 use Rattle.trie_theory.specs.Forest.{Strings, Key, Forest, none, leaf, inner, join, under, keys, tops}
-use Rattle.trie_theory.specs.Strings.{at, goesOn}
+use Rattle.trie_theory.specs.Strings.{at, allBegin}
 use Rattle.trie_theory.specs.Dimensions.{Above, root, below}
 use Rattle.trie_theory.specs.Sound.{Sound}
 use Rattle.trie_theory.specs.Search.{Node, top, child, branch, node, nodesIn, admitted, enters, nodesEntered}
-use Rattle.trie_theory.proofs.Prefix.{Prefixes, goesOn-prefixes, prefixes-at, prefixes-join}
+use Rattle.trie_theory.proofs.Prefix.{Prefixes, allBegin-prefixes, prefixes-at, prefixes-join}
 use Rattle.trie_theory.proofs.Strings.{drop-prefix}
 use Rattle.trie_theory.proofs.Search.{branch-join, entered-admitted}
 use Rattle.entries.specs.Query.{Query, reaches}
@@ -125,7 +125,7 @@ entered-exactly q n above k f s a =
         go true y e = sym e
         go false y e = refl
 
-    down : (l m : Strings) → goesOn l m ≡ true → both m ≡ true → both l ≡ true
+    down : (l m : Strings) → allBegin l m ≡ true → both m ≡ true → both l ≡ true
     down l m g e =
         let b = and-right (reaches q m) (known m) e in
-        and-both (reaches-before q l m g b (and-left (reaches q m) (known m) e)) (known-before l m (goesOn-prefixes l m g) b)
+        and-both (reaches-before q l m g b (and-left (reaches q m) (known m) e)) (known-before l m (allBegin-prefixes l m g) b)

@@ -11,12 +11,12 @@ use Rattle.buffer.specs.Lists.{All, nil, pick, flat}
 use Rattle.buffer.proofs.Lists.{all-head, all-tail, all-imp, all-both, all-append, all-map, all-pick, pick-append, map-append, map-agree}
 use Rattle.buffer.proofs.Tests.{not-true}
 use Rattle.trie_theory.specs.Forest.{Strings, Key, Forest, none, leaf, inner, join, under, keys, tops}
-use Rattle.trie_theory.specs.Strings.{begins, goesOn}
+use Rattle.trie_theory.specs.Strings.{begins, allBegin}
 use Rattle.trie_theory.specs.Dimensions.{Above, below, branching}
 use Rattle.trie_theory.specs.Sound.{Node, Sound}
 use Rattle.trie_theory.specs.Encode.{Regular}
 use Rattle.trie_theory.specs.Walk.{Step, stepAt, walk}
-use Rattle.trie_theory.proofs.Prefix.{From, goesOn-prefixes, prefixes-goesOn}
+use Rattle.trie_theory.proofs.Prefix.{From, allBegin-prefixes, prefixes-allBegin}
 use Rattle.trie_theory.proofs.Branching.{branching-prefix}
 use Rattle.trie_theory.proofs.Strings.{length-join}
 use Rattle.trie_theory.proofs.Keys.{keys-from, from-under, all-keys}
@@ -34,8 +34,8 @@ unfolding begins
 begins-behind [] p s = refl
 begins-behind (b ∷ k) p s = rw (eq-eqb b b refl) (begins-behind k p s)
 
-goesOn-behind : (k p s : Strings) → length k ≡ length p → length p ≡ length s → goesOn (join k p) (join k s) ≡ goesOn p s
-unfolding goesOn join
+goesOn-behind : (k p s : Strings) → length k ≡ length p → length p ≡ length s → allBegin (join k p) (join k s) ≡ allBegin p s
+unfolding allBegin join
 goesOn-behind [] p s h l = refl
 goesOn-behind (a ∷ k) [] s h l = absurd (omega arith)
 goesOn-behind (a ∷ k) (b ∷ p) [] h l = absurd (omega arith)
@@ -55,14 +55,14 @@ others n above b (inner d t kids more) s a =
 
 -- so they do not go on with the strings s
 pub not-on : (n : ℕ) (above : Above) (k s : Strings) (more : Forest) → length k ≡ n → Node n above s more → Sound n above more
-    → All (λ x. goesOn (join k s) (x .strings) ≡ false) (keys k more)
+    → All (λ x. allBegin (join k s) (x .strings) ≡ false) (keys k more)
 unfolding under
 not-on n above k s more w h f =
     rw (keys-from k more)
     (all-map (under k)
-    (λ y q. not-true (goesOn (join k s) (join k (y .strings)))
+    (λ y q. not-true (allBegin (join k s) (join k (y .strings)))
     (λ e. q .1 (branching-prefix above s (y .strings) (h .starts)
-    (goesOn-prefixes s (y .strings) (sym (goesOn-behind k s (y .strings) (w ∙ sym (h .wide)) (h .wide ∙ sym (q .0))) ∙ e)))))
+    (allBegin-prefixes s (y .strings) (sym (goesOn-behind k s (y .strings) (w ∙ sym (h .wide)) (h .wide ∙ sym (q .0))) ∙ e)))))
     (all-both (wide-keys n above more f) (others n above (branching above s) more f (h .apart))))
 
 -- ---- the way of a key
@@ -86,20 +86,20 @@ module _ (n : ℕ) (way : List ℕ) (k s : Strings) (more : Forest) where
   leaf-on : (ts : List Key) (x : Key) → From (join k s) x → wayRecord n way (walk k (leaf s ts more) x) x ≡ keyRecord (n + 1) (way ++ nodeOf (join k s) 0) x
   unfolding walk
   leaf-on ts x h =
-      rw (prefixes-goesOn (join k s) (x .strings) h)
+      rw (prefixes-allBegin (join k s) (x .strings) h)
       (way-step n way (join k s) (length ts) 0 [] x ∙ way-end (n + 1) (way ++ nodeOf (join k s) 0) x)
 
   inner-on : (d : ℕ) (kids : Forest) (x : Key) → From (join k s) x
       → wayRecord n way (walk k (inner d s kids more) x) x ≡ wayRecord (n + 1) (way ++ nodeOf (join k s) (suc d)) (walk (join k s) kids x) x
   unfolding walk
   inner-on d kids x h =
-      rw (prefixes-goesOn (join k s) (x .strings) h) (way-step n way (join k s) (length (keys (join k s) kids)) (suc d) (walk (join k s) kids x) x)
+      rw (prefixes-allBegin (join k s) (x .strings) h) (way-step n way (join k s) (length (keys (join k s) kids)) (suc d) (walk (join k s) kids x) x)
 
-  leaf-past : (ts : List Key) (x : Key) → goesOn (join k s) (x .strings) ≡ false → wayRecord n way (walk k (leaf s ts more) x) x ≡ wayRecord n way (walk k more x) x
+  leaf-past : (ts : List Key) (x : Key) → allBegin (join k s) (x .strings) ≡ false → wayRecord n way (walk k (leaf s ts more) x) x ≡ wayRecord n way (walk k more x) x
   unfolding walk
   leaf-past ts x h = rw h
 
-  inner-past : (d : ℕ) (kids : Forest) (x : Key) → goesOn (join k s) (x .strings) ≡ false
+  inner-past : (d : ℕ) (kids : Forest) (x : Key) → allBegin (join k s) (x .strings) ≡ false
       → wayRecord n way (walk k (inner d s kids more) x) x ≡ wayRecord n way (walk k more x) x
   unfolding walk
   inner-past d kids x h = rw h
@@ -136,6 +136,6 @@ pub walk-root : (f : Forest) (x : Key) → Regular 2 f → walk ([] ∷ [] ∷ [
 unfolding walk Regular join
 walk-root none x h = refl
 walk-root (leaf s ts more) x h =
-    ap₂ (λ (l : Strings) (r : List Step). cond (goesOn l (x .strings)) (stepAt l (length ts) 0 ∷ []) r) (blank s (h .0)) (walk-root more x (h .2))
+    ap₂ (λ (l : Strings) (r : List Step). cond (allBegin l (x .strings)) (stepAt l (length ts) 0 ∷ []) r) (blank s (h .0)) (walk-root more x (h .2))
 walk-root (inner d s kids more) x h =
-    ap₂ (λ (l : Strings) (r : List Step). cond (goesOn l (x .strings)) (stepAt l (length (keys l kids)) (suc d) ∷ walk l kids x) r) (blank s (h .0)) (walk-root more x (h .2))
+    ap₂ (λ (l : Strings) (r : List Step). cond (allBegin l (x .strings)) (stepAt l (length (keys l kids)) (suc d) ∷ walk l kids x) r) (blank s (h .0)) (walk-root more x (h .2))

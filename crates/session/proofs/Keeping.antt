@@ -1,24 +1,23 @@
 -- One call on the memory of `fieldlog`, used or not. Assumes nothing.
-use mathlib.Core.Path.{_≡_, refl, sym, ap, subst, _∙_}
+use mathlib.Core.Path.{_≡_, refl, sym, ap, _∙_}
 use mathlib.Core.Bool.{Bool, true, false, _||_}
 use lib.Dec.{ltb}
 use Prim.Native.Nat.{ℕ, zero, suc, _≤_}
-use mathlib.Core.List.{List, []}
+use mathlib.Core.List.{List}
 use native.Mathlib.Omega.{arith}
-use lib.ListN.{length, take, drop, replicate, drop-of-length-le}
+use lib.ListN.{length, replicate, drop-of-length-le}
 use lib.Seq.{take-all}
 use Rattle.buffer.specs.Numbers.{number}
 use Rattle.rows.specs.Entry.{Entry}
 use Rattle.entries.specs.Query.{Query}
-use Rattle.book.specs.Front.{Front, frontSize, frontOf, inLimits, need, capacity, noStore}
+use Rattle.book.specs.Front.{frontSize, frontOf, inLimits, need, capacity, noStore}
 use Rattle.book.specs.Book.{Book, Sound, front, blank}
-use Rattle.book.specs.Replies.{Result, result, Reply, reply, setupNumber, addNumber, searchNumber}
-use Rattle.book.specs.Calls.{Call, setup, add, search, readLevel, lent, typed}
+use Rattle.book.specs.Replies.{Result, result, reply, setupNumber, addNumber, searchNumber}
+use Rattle.book.specs.Calls.{Call, lent, typed}
 use Rattle.book.specs.Step.{step}
-use Rattle.book.specs.Image.{HoldsBook}
-use Rattle.book.specs.Promises.{SetsUp, Adds, Searches, Promise}
+use Rattle.book.specs.Promises.{Promise}
 use Rattle.book.specs.Ran.{Did}
-use Rattle.book.proofs.OneCall.{one-call, setup-accepted, Agrees}
+use Rattle.book.proofs.OneCall.{one-call, setup-accepted, Agrees, result-of}
 use Rattle.session.specs.Sizes.{storeSize}
 use Rattle.session.specs.Printed.{setupCall, addCall, searchCall}
 use Rattle.session.specs.Keeps.{Keeps, ours, unused}
@@ -58,9 +57,6 @@ pub record Kept (b : Book) (c : Call) (r : Result) (after : List ℕ) : Type 0 w
 from-agrees : {b : Book} {c : Call} {r : Result} {after : List ℕ} → Agrees b c r after → Kept b c r after
 from-agrees a = record { result = a .result; keeps = ours (a .holds) }
 
-result-is : (r : Result) {a : Reply} {x : List ℕ} → r .reply ≡ a → r .answer ≡ x → r ≡ result a x
-result-is r p q = λ i. record { reply = p i; answer = q i }
-
 module _ (store after : List ℕ) (r : Result) (lent-all : length store ≡ storeSize) (size : length after ≡ length store) where
   whole : (c : Call) → lent c ≡ storeSize → typed c ≡ true → Promise c store after r → Did store c r after
   whole c n t p =
@@ -77,7 +73,7 @@ module _ (store after : List ℕ) (r : Result) (lent-all : length store ≡ stor
   unfolding step
   setup-refused b m l t k p z h =
       let z′ : setupNumber (length store) m l t ≡ suc k = rw lent-all z in
-      record { result = rw z (result-is r (p .0 .answers ∙ rw z′) (p .1)); keeps = rw (z, p .0 .refused k z′) h }
+      record { result = rw z (result-of r (p .0 .answers ∙ rw z′) (p .1)); keeps = rw (z, p .0 .refused k z′) h }
 
   pub kept-setup : (b : Book) (m l t : ℕ) → Promise (setupCall m l t) store after r → Keeps store b → Kept b (setupCall m l t) r after
   unfolding typed
@@ -93,7 +89,7 @@ module _ (store after : List ℕ) (r : Result) (lent-all : length store ≡ stor
   kept-add b x t p (unused eb es) =
       let q = p .0 .refused 3 (add-four store es (length store) x .0) in
       let y : addNumber storeSize (front b) x ≡ 4 = rw eb (add-four store es storeSize x .1) in
-      record { result = rw y (result-is r (q .0) (p .1)); keeps = rw (y, q .1) (unused eb es) }
+      record { result = rw y (result-of r (q .0) (p .1)); keeps = rw (y, q .1) (unused eb es) }
 
   pub kept-search : (b : Book) (q : Query) (answer : List ℕ) → Promise (searchCall q answer) store after r → Keeps store b → Kept b (searchCall q answer) r after
   unfolding step typed

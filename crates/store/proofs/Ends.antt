@@ -13,7 +13,7 @@ use Rattle.trie_theory.specs.Strings.{at}
 use Rattle.trie_theory.specs.Dimensions.{root}
 use Rattle.trie_theory.specs.Sound.{Sound, Wide}
 use Rattle.trie_theory.specs.Encode.{Regular, Twenty, encode, nodeBytes, suffixBytes}
-use Rattle.trie_theory.proofs.SoundLaws.{root-alone}
+use Rattle.trie_theory.proofs.SoundLaws.{root-single}
 use Rattle.trie_read.specs.Heads.{front, nodeHead}
 use Rattle.trie_read.proofs.Node.{node-is, length-own, headAt, head-node}
 
@@ -62,9 +62,9 @@ pub rooted : (f : Forest) (rest : List ℕ) → Sound 2 root f → Regular 2 f �
 unfolding Sound Regular encode
 rooted none rest s w = inl refl
 rooted (leaf st ts more) rest s w =
-    inr (node-rooted _ 0 st (flat (map suffixBytes ts)) rest (w .0) (some-suffixes ts (s .1) (w .1)) (ap (λ (m : Forest). nodeBytes 0 st (flat (map suffixBytes ts)) ++ encode m) (root-alone 2 st more (s .0))))
+    inr (node-rooted _ 0 st (flat (map suffixBytes ts)) rest (w .0) (some-suffixes ts (s .1) (w .1)) (ap (λ (m : Forest). nodeBytes 0 st (flat (map suffixBytes ts)) ++ encode m) (root-single 2 st more (s .0))))
 rooted (inner d st kids more) rest s w =
-    inr (node-rooted _ (suc d) st (encode kids) rest (w .0) (some-nodes kids (s .1)) (ap (λ (m : Forest). nodeBytes (suc d) st (encode kids) ++ encode m) (root-alone 2 st more (s .0))))
+    inr (node-rooted _ (suc d) st (encode kids) rest (w .0) (some-nodes kids (s .1)) (ap (λ (m : Forest). nodeBytes (suc d) st (encode kids) ++ encode m) (root-single 2 st more (s .0))))
 
 -- zeros have no root
 seven-zeros : (n : ℕ) → bodyAt (replicate (suc (suc (suc (suc (suc (suc (suc n))))))) 0) ≡ 0

@@ -13,7 +13,7 @@ use Rattle.buffer.proofs.Splice.{splice-inside}
 use Rattle.trie_theory.specs.Forest.{none}
 use Rattle.rows.specs.Entry.{Entry}
 use Rattle.book.specs.Front.{frontBytes, frontRoom, entryRoom, need}
-use Rattle.book.specs.Digits.{rounds, small, level, levelStart, levelSize}
+use Rattle.book.specs.Digits.{quotient, small, level, levelStart, levelSize}
 use Rattle.book.specs.Tries.{tries}
 use Rattle.book.specs.Book.{fresh, front}
 use Rattle.book.specs.Image.{padded, regions, storeOf, image}
@@ -43,7 +43,7 @@ patched s s₁ s₂ a d e z p h q l f g =
 module _ (m l t : ℕ) where
   no-small : tries (fresh m l t) .small ≡ none
   unfolding tries small
-  no-small = rw (drop-nil {A = Entry} (m * rounds m [])) small-empty
+  no-small = rw (drop-nil {A = Entry} (m * quotient m [])) small-empty
 
   no-level : (i : ℕ) → tries (fresh m l t) .level i ≡ none
   unfolding tries level

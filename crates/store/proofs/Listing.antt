@@ -1,9 +1,9 @@
 -- The rows that a walk found, sorted, in the answer; and whether they have room there: for rows of any width. Assumes nothing.
-use Prim.Native.Nat.{ℕ, zero, suc, _+_, _*_, _/_, _≤_, _<_, min}
+use Prim.Native.Nat.{ℕ, _+_, _*_, _/_, _≤_, _<_, min}
 use mathlib.Core.Path.{_≡_, refl, sym, ap, _∙_}
 use mathlib.Core.Bool.{true}
 use mathlib.Core.Logic.{inl, inr}
-use mathlib.Core.List.{List, [], _∷_, append-nil, map}
+use mathlib.Core.List.{List, [], append-nil}
 use native.Mathlib.Omega.{arith}
 use native.Mathlib.Nat.{mul-le-mul-right, div-lt-iff-lt-mul}
 use lib.ListN.{length, take, drop, length-take}
@@ -22,11 +22,6 @@ use Rattle.book.specs.Step.{list}
 use Rattle.book.specs.Promises.{Accepted}
 use Rattle.book.proofs.Listing.{list-room, list-over}
 use Rattle.store.specs.Listing.{Overfull, Filled, Listed}
-
-pub map-take : {A B : Type 0} (f : A → B) (n : ℕ) (xs : List A) → map f (take n xs) ≡ take n (map f xs)
-map-take f zero xs = refl
-map-take f (suc n) [] = refl
-map-take f (suc n) (x ∷ xs) = ap (λ (l : List _). f x ∷ l) (map-take f n xs)
 
 -- A walk that found n rows, and wrote the first `room` of them over the beginning of s; d is the second value. Sorted they are those of the tries
 pub record Walked (width : ℕ) (Rows : List (List ℕ) → ℕ → Type 0) (room : ℕ) (s s' : List ℕ) (n d : ℕ) : Type 0 where

@@ -59,7 +59,7 @@ upTo-next (suc k) t = refl
 good-fits : {f : Front} {t : Tries} → GoodTries f t → Fit (f .M) (f .L) t
 good-fits g = record { small = g .small .fits; levels = λ i h. g .levels i h .fits }
 
-twenty : (xs : List Key) → All Key.Entry xs → All Twenty xs
+twenty : (xs : List Key) → All Key.OfEntry xs → All Twenty xs
 twenty [] a = nil
 twenty (x ∷ xs) (cons e a) = cons (e .named) (twenty xs a)
 

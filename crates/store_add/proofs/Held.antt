@@ -7,7 +7,7 @@ use lib.ListN.{length, take, drop, length-map}
 use Rattle.buffer.specs.Numbers.{bytesOf, number}
 use Rattle.buffer.specs.Splice.{splice, region}
 use Rattle.buffer.proofs.Digits.{length-bytesOf, number-bytesOf}
-use Rattle.buffer.proofs.Splice.{length-splice, drop-after, region-at, region-before}
+use Rattle.buffer.proofs.Splice.{length-splice, drop-after, region-at, region-before, region-take}
 use Rattle.rows.specs.Entry.{Entry}
 use Rattle.trie_theory.specs.Dimensions.{root}
 use Rattle.trie_theory.specs.SmallTrie.{added}
@@ -19,7 +19,7 @@ use Rattle.book.specs.Book.{Book, Sound, held, front, put}
 use Rattle.book.specs.Digits.{small}
 use Rattle.book.specs.Tries.{tries}
 use Rattle.book.specs.Image.{image, padded, Holds}
-use Rattle.book.proofs.Regions.{smallAt, region-take}
+use Rattle.book.proofs.Regions.{smallAt}
 use Rattle.book.proofs.Image.{length-image, image-fits, small-formed, small-trie-of}
 use Rattle.book.proofs.Writes.{as-held, write-within, add-small}
 use Rattle.store.proofs.Places.{region-within}

@@ -39,7 +39,7 @@ use Rattle.book.proofs.Book.{all-snoc}
 use Rattle.book.proofs.EntryKeys.{keys-of-entries}
 use Rattle.store.specs.Parts.{regionAt, regionSize, numbered, upTo}
 use Rattle.store.proofs.Places.{region-within, good-numbered}
-use Rattle.store_overflow.specs.Steps.{slotsAt, levelBytes, FirstGathered, Filled}
+use Rattle.store_overflow.specs.Steps.{slotsAt, levelBytes, FirstGathered, LevelFilled}
 use Rattle.store_overflow.proofs.Placing.{length-put, put-short}
 use Rattle.store_overflow.proofs.LevelBytes.{length-level}
 use Rattle.store_overflow.proofs.FirstTries.{entries-next}
@@ -177,7 +177,7 @@ module _ (m l τ j k x n : ℕ) (e : Entry) (short : length (e .path) ≤ pathLi
       ap (λ (rs : List (List ℕ)). padded (entryRoom * x) (encode (levelOf 2 τ (map slotKey (sorted recordOrder rs))))) all-slots
       ∙ ap (λ (ks : List Key). padded (entryRoom * x) (encode (levelOf 2 τ ks))) (slots-keys xs (all-snoc fitsRow es e rows fit))
 
-  pub filled : k ≡ suc j → (s₃ s₄ : List ℕ) → s₃ ≡ splice s₂ base level-bytes → s₄ ≡ splice s₃ frontRoom zeros → Filled m l τ j e s s₄
+  pub filled : k ≡ suc j → (s₃ s₄ : List ℕ) → s₃ ≡ splice s₂ base level-bytes → s₄ ≡ splice s₃ frontRoom zeros → LevelFilled m l τ j e s s₄
   filled here s₃ s₄ a b =
       record {
         bytes = zeros ++ level-bytes;

@@ -13,7 +13,7 @@ use Rattle.rows.specs.Entry.{Entry}
 use Rattle.rows.proofs.Sorted.{count-all}
 use Rattle.trie_theory.specs.Encode.{encode}
 use Rattle.book.specs.Front.{frontRoom, heldAt, entryRoom, need}
-use Rattle.book.specs.Digits.{digit, rounds, small}
+use Rattle.book.specs.Digits.{digit, quotient, small}
 use Rattle.book.specs.Book.{Book, Sound, front, held, put, formed}
 use Rattle.book.specs.Tries.{tries, levelTrie}
 use Rattle.book.specs.FromTries.{entriesIn}
@@ -28,7 +28,7 @@ use Rattle.book.proofs.Writes.{as-held, write-within, add-level}
 use Rattle.book.proofs.Good.{tries-good}
 use Rattle.store.proofs.Places.{region-within}
 use Rattle.store_overflow.specs.Overflow.{Overflowed}
-use Rattle.store_overflow.specs.Steps.{FirstEmpty, Filled}
+use Rattle.store_overflow.specs.Steps.{FirstEmpty, LevelFilled}
 
 -- what level j and all below it become
 abbrev bytesFor : ℕ → ℕ → ℕ → List Entry → List ℕ
@@ -37,7 +37,7 @@ bytesFor m τ j xs = let n = entryRoom * m * 2 ^ j in replicate n 0 ++ padded n 
 -- ---- in a store of ours
 
 module _ (b : Book) (sound : Sound b) (e : Entry) (f : formed e ≡ true) (j : ℕ) (low : j < b .L) (h : length (small (b .M) (b .entries)) + 1 ≡ b .M)
-    (empty : digit j (rounds (b .M) (b .entries)) ≡ 0) (others : (i : ℕ) → i < j → digit i (rounds (b .M) (b .entries)) ≡ 1) where
+    (empty : digit j (quotient (b .M) (b .entries)) ≡ 0) (others : (i : ℕ) → i < j → digit i (quotient (b .M) (b .entries)) ≡ 1) where
   -- the level has room for what is gathered and the new one
   few-entries : length (entriesIn j (tries b)) + 1 ≤ b .M * 2 ^ j
   few-entries =
@@ -70,15 +70,15 @@ module _ (b : Book) (sound : Sound b) (e : Entry) (f : formed e ≡ true) (j : �
 
 -- ---- in any
 
-quotient-is : (m held : ℕ) (b : Book) → m ≡ b .M → held ≡ Rattle.book.specs.Book.held b → held / m ≡ rounds (b .M) (b .entries)
-unfolding rounds
+quotient-is : (m held : ℕ) (b : Book) → m ≡ b .M → held ≡ Rattle.book.specs.Book.held b → held / m ≡ quotient (b .M) (b .entries)
+unfolding quotient
 quotient-is m held b em eh = ap₂ (λ (x y : ℕ). x / y) eh em
 
 module _ (m l τ held j : ℕ) (e : Entry) (store : List ℕ) (d : FirstEmpty l (held / m) j) where
   fits-book : (b : Book) → m ≡ b .M → l ≡ b .L → {x y : List ℕ} → x ≡ y → frontRoom + length x ≤ need m l → frontRoom + length y ≤ need (b .M) (b .L)
   fits-book b em el e h = omega (arith, h, ap₂ need em el, ap length e)
 
-  pub overflowed : {after : List ℕ} → j < l → need m l ≤ length store → Filled m l τ j e store after → Overflowed m l τ held e store after
+  pub overflowed : {after : List ℕ} → j < l → need m l ≤ length store → LevelFilled m l τ j e store after → Overflowed m l τ held e store after
   overflowed {after} low lent a =
       let within : frontRoom + length (a .bytes) ≤ need m l = omega (arith, region-within m l (suc j) low, a .long) in
       let fit : frontRoom + length (a .bytes) ≤ length store = omega arith in
@@ -89,7 +89,7 @@ module _ (m l τ held j : ℕ) (e : Entry) (store : List ℕ) (d : FirstEmpty l 
         ours = λ b sound f holds em el et eh h room.
             let q = quotient-is m held b em eh in
             let empty = subst (λ (n : ℕ). digit j n ≡ 0) q (d .empty low) in
-            let others : (i : ℕ) → i < j → digit i (rounds (b .M) (b .entries)) ≡ 1 = λ i k. subst (λ (n : ℕ). digit i n ≡ 1) q (d .ones i k) in
+            let others : (i : ℕ) → i < j → digit i (quotient (b .M) (b .entries)) ≡ 1 = λ i k. subst (λ (n : ℕ). digit i n ≡ 1) q (d .ones i k) in
             let few : length (entriesIn j (tries b)) + 1 ≤ m * 2 ^ j =
             subst (λ (n : ℕ). length (entriesIn j (tries b)) + 1 ≤ n * 2 ^ j) (sym em) (few-entries b sound e f j (omega (arith, low, el)) h empty others) in
             let are : a .bytes ≡ bytesFor (b .M) (b .τ) j (entriesIn j (tries b) ++ (e ∷ [])) =

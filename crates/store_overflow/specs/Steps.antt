@@ -47,7 +47,7 @@ pub record FirstGathered (m l k out room : ℕ) (s s′ : List ℕ) (r : ℕ) : 
       length es ≤ room → (r ≡ length es) × (bytes ≡ flat (map slot es))
 
 -- The regions of level j and of all tries below it are written anew. Where s holds good tries: level j is of their entries and e, and the rest zeros
-pub record Filled (m l τ j : ℕ) (e : Entry) (s s′ : List ℕ) : Type 0 where
+pub record LevelFilled (m l τ j : ℕ) (e : Entry) (s s′ : List ℕ) : Type 0 where
   pub bytes : List ℕ
   pub is : s′ ≡ splice s frontRoom bytes
   pub long : length bytes ≡ entryRoom * m * 2 ^ j + entryRoom * m * 2 ^ j

@@ -16,7 +16,7 @@ ghost use Rattle.matcher.specs.Bytes.{pathLimit};
 ghost use Rattle.rows.specs.Sizes.{referenceSize};
 ghost use Rattle.rows.specs.Entry.{entry};
 ghost use Rattle.book.specs.Front.{need, mLimit, lLimit};
-ghost use Rattle.store_overflow.specs.Steps.{Filled};
+ghost use Rattle.store_overflow.specs.Steps.{LevelFilled};
 ghost use Rattle.store_overflow.specs.Overflow.{Overflowed};
 
 // Builds level j, of l, from what lies below it and the new entry, and empties what lies below.
@@ -32,7 +32,7 @@ fn fill_level(
 )
     requires { ⌜ (1 ≤ m) × (m ≤ mLimit) × (l ≤ lLimit) × (j < l) × (need m l ≤ length (now store)) × (length (now path) ≤ pathLimit) × (length (now reference) ≡ referenceSize) ⌝ }
     ensures { λ _.
-        ⌜ Filled m l tau j (entry (now (path .entry)) value (now (reference .entry))) (now (store .entry)) (now (store .exit)) ⌝ }
+        ⌜ LevelFilled m l tau j (entry (now (path .entry)) value (now (reference .entry))) (now (store .entry)) (now (store .exit)) ⌝ }
 {
     let size = m * power(j);
     let base = FRONT_ROOM + ENTRY_ROOM * size;

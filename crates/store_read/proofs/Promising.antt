@@ -47,7 +47,7 @@ use Rattle.store_read.specs.Listings.{Level, RecordsOf}
 
 -- ---- the trie of a level
 
-slot-of : (x : Key) → Entries.Entry x → hasSlot x ≡ true
+slot-of : (x : Key) → Entries.OfEntry x → hasSlot x ≡ true
 slot-of x e = ap hasSlot (sym (entry-back x e)) ∙ entry-has (keyEntry x) (entry-fits x e)
 
 module _ (b : Book) (s : Sound b) (i : ℕ) where

@@ -6,7 +6,7 @@ use Rattle.buffer.specs.Lists.{All}
 use Rattle.rows.specs.Order.{entryOrder}
 use Rattle.rows.specs.Sorted.{sorted}
 use Rattle.trie_theory.specs.Forest.{Forest, keys}
-use Rattle.trie_theory.specs.Entries.{Entry}
+use Rattle.trie_theory.specs.Entries.{OfEntry}
 use Rattle.book.specs.Records.{recordOf}
 use Rattle.book.specs.FromTries.{entriesOf}
 use Rattle.read_back.specs.Readings.{TrieBytes}
@@ -14,7 +14,7 @@ use Rattle.read_back.specs.Readings.{TrieBytes}
 -- the bytes t are those of a trie of keys of entries
 pub record Level (t : List ℕ) (f : Forest) : Type 0 where
   pub trie : TrieBytes t f
-  pub entries : All Entry (keys [] f)
+  pub entries : All OfEntry (keys [] f)
 
 -- the records, in row sequence, of a trie whose bytes are t; the second value is zero
 pub record RecordsOf (t : List ℕ) (records : List (List ℕ)) (second : ℕ) : Type 0 where

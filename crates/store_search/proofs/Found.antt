@@ -62,15 +62,15 @@ module _ (q : Query) where
   nodes-next k t = ap (λ (n : ℕ). nodesUpTo q n t) (add-one k) ∙ nodes-suc k t
 
   -- what is found in a good trie are keys of entries
-  found-entries : (room : ℕ) (f : Forest) → Good room f → All Key.Entry (of-trie f)
+  found-entries : (room : ℕ) (f : Forest) → Good room f → All Key.OfEntry (of-trie f)
   found-entries room f g =
-      subst (All Key.Entry) (sym (found-keys q root [] f (all-imp entry-valued (g .entries)))) (all-imp (λ x h. h .0) (all-pick (wants q) (g .entries)))
+      subst (All Key.OfEntry) (sym (found-keys q root [] f (all-imp entry-valued (g .entries)))) (all-imp (λ x h. h .0) (all-pick (wants q) (g .entries)))
 
-  entries-found : (f : Front) (t : Tries) → GoodTries f t → (k : ℕ) → k ≤ f .L + 1 → All Key.Entry (foundUpTo q k t)
+  entries-found : (f : Front) (t : Tries) → GoodTries f t → (k : ℕ) → k ≤ f .L + 1 → All Key.OfEntry (foundUpTo q k t)
   unfolding foundUpTo flat
   entries-found f t g zero h = nil
   entries-found f t g (suc k) h =
-      subst (All Key.Entry) (sym (found-suc k t)) (all-append (entries-found f t g k (omega arith)) (found-entries _ (numbered t k) (good-numbered f t g k (omega arith))))
+      subst (All Key.OfEntry) (sym (found-suc k t)) (all-append (entries-found f t g k (omega arith)) (found-entries _ (numbered t k) (good-numbered f t g k (omega arith))))
 
   -- those of all tries
   found-all : (l : ℕ) (t : Tries) → map keyEntry (foundUpTo q (l + 1) t) ≡ foundIn q l t
@@ -145,7 +145,7 @@ searched-next {q} {store} {m} {l} {k} {room} {from} {to} {s} {s'} {s''} {r} {d} 
 
 -- the keys put are those of the entries found
 pub record Finds (q : Query) (l : ℕ) (t : Tries) (put : List Key) (r d : ℕ) : Type 0 where
-  pub entries : All Key.Entry put
+  pub entries : All Key.OfEntry put
   pub are : map keyEntry put ≡ foundIn q l t
   pub rows : r ≡ length (foundIn q l t)
   pub nodes : d ≡ nodesOf q l t
@@ -156,7 +156,7 @@ finds {q} {store} {m} {l} a f t em el g h =
     let x = a .are f t em el g h in
     let are : map keyEntry (a .put) ≡ foundIn q l t = ap (map keyEntry) (x .0) ∙ found-all q l t in
     record {
-      entries = subst (All Key.Entry) (sym (x .0)) (entries-found q f t g (l + 1) (omega arith));
+      entries = subst (All Key.OfEntry) (sym (x .0)) (entries-found q f t g (l + 1) (omega arith));
       are = are;
       rows = a .rows-are ∙ sym (length-map (a .put) keyEntry) ∙ ap length are;
       nodes = x .1 ∙ nodes-all q l t;

@@ -16,7 +16,7 @@ pub record Rowed (x : Key) : Type 0 where
   pub row-is : keyRow x ≡ row (keyEntry x)
   pub fits : fitsRow (keyEntry x) ≡ true
 
-pub rowed : (x : Key) → Key.Entry x → Rowed x
+pub rowed : (x : Key) → Key.OfEntry x → Rowed x
 rowed x e =
     let back = sym (entry-back x e) in
     let fits = entry-fits x e in

@@ -7,6 +7,7 @@ use lib.ListN.{length-map}
 use Rattle.buffer.specs.Lists.{All, nil, cons, all, flat}
 use Rattle.buffer.specs.Splice.{splice}
 use Rattle.buffer.proofs.Tests.{and-both}
+use Rattle.buffer.proofs.Lists.{map-take}
 use Rattle.rows.specs.Sizes.{rowSize}
 use Rattle.rows.specs.Entry.{row, fitsRow}
 use Rattle.rows.specs.Order.{recordOrder}
@@ -20,18 +21,18 @@ use Rattle.gather.proofs.Putting.{all-even}
 use Rattle.search.specs.Steps.{keyRow}
 use Rattle.search.proofs.Finding.{length-row}
 use Rattle.book.specs.FromTries.{keyEntry, foundIn}
-use Rattle.store.proofs.Listing.{Walked, map-take}
+use Rattle.store.proofs.Listing.{Walked}
 use Rattle.store_search.specs.Listing.{TriesSearched, RowsOf}
 use Rattle.store_search.proofs.Keys.{rowed}
 use Rattle.store_search.proofs.Found.{finds}
 
 -- ---- rows of keys of entries
 
-rows-of : {xs : List Key} → All Key.Entry xs → map keyRow xs ≡ map row (map keyEntry xs)
+rows-of : {xs : List Key} → All Key.OfEntry xs → map keyRow xs ≡ map row (map keyEntry xs)
 rows-of nil = refl
 rows-of (cons {x = x} e a) = λ i. rowed x e .row-is i ∷ rows-of a i
 
-fit-rows : {xs : List Key} → All Key.Entry xs → all fitsRow (map keyEntry xs) ≡ true
+fit-rows : {xs : List Key} → All Key.OfEntry xs → all fitsRow (map keyEntry xs) ≡ true
 fit-rows nil = refl
 fit-rows (cons {x = x} e a) = and-both (rowed x e .fits) (fit-rows a)
 

@@ -8,8 +8,8 @@ use lib.ListN.{length, drop, length-append}
 use Rattle.buffer.specs.Splice.{splice, region}
 use Rattle.buffer.specs.Numbers.{bytesOf}
 use Rattle.trie_theory.specs.Forest.{Strings, Key, Forest, none, leaf, inner}
-use Rattle.trie_theory.specs.Strings.{at, goesOn, strip, remains}
-use Rattle.trie_theory.specs.SmallTrie.{meets, alone, added}
+use Rattle.trie_theory.specs.Strings.{at, allBegin, strip, remains}
+use Rattle.trie_theory.specs.SmallTrie.{meets, newLeaf, added}
 use Rattle.trie_theory.specs.Sound.{Ascending}
 use Rattle.trie_theory.specs.Size.{height}
 use Rattle.trie_theory.specs.Encode.{Regular, encode, nodeBytes}
@@ -21,7 +21,7 @@ use Rattle.trie_read.proofs.Stretch.{part-from}
 use Rattle.trie_add.specs.Replaced.{Replaced, splitBytes}
 use Rattle.trie_add.specs.Added.{Added, AddedAt, Grown, single, siblings, kindOf, grownBody}
 use Rattle.trie_add.proofs.Adding.{stretch, widened, body-grown}
-use Rattle.trie_add.proofs.First.{height-some, single-bytes, single-added, single-agrees, single-differs, alone-before, head-kind, single-length, Stands, stands}
+use Rattle.trie_add.proofs.First.{height-some, single-bytes, single-added, single-agrees, single-differs, newLeaf-before, head-kind, single-length, Stands, stands}
 
 -- ---- below an inner node
 
@@ -54,7 +54,7 @@ module _ (s : List ℕ) (node kind start body next used above depth : ℕ) (v p 
   abbrev nodeStrings : Strings
   nodeStrings = part (node + 7) start s ∷ part start body s ∷ []
 
-  pub visit-agrees : (s′ : List ℕ) (n i j : ℕ) → n ≤ 36 + length v + length p → used ≤ length s → goesOn nodeStrings (v ∷ p ∷ []) ≡ true
+  pub visit-agrees : (s′ : List ℕ) (n i j : ℕ) → n ≤ 36 + length v + length p → used ≤ length s → allBegin nodeStrings (v ∷ p ∷ []) ≡ true
       → i ≡ length (part (node + 7) start s) → j ≡ length (part start body s)
       → Grown s node kind body next used depth (keyOf (part i (length v) v) (part j (length p) p) r) s′ n
       → AddedAt s node kind start body next used above depth x s′ n
@@ -68,7 +68,7 @@ module _ (s : List ℕ) (node kind start body next used above depth : ℕ) (v p 
             rw (single-agrees (aboveOf above) x f (st .some) m (rw (st .strings-are) at g), ← rest, ← st .kind-is) y;
       }
 
-  pub visit-differs : (s′ : List ℕ) (n : ℕ) → n ≤ 36 + length v + length p → used ≤ length s → goesOn nodeStrings (v ∷ p ∷ []) ≡ false
+  pub visit-differs : (s′ : List ℕ) (n : ℕ) → n ≤ 36 + length v + length p → used ≤ length s → allBegin nodeStrings (v ∷ p ∷ []) ≡ false
       → Replaced s node next used (splitBytes (aboveOf above) kind nodeStrings (region s body (next - body)) x) s′ n
       → AddedAt s node kind start body next used above depth x s′ n
   visit-differs s′ n l fit g replaced =
@@ -115,15 +115,15 @@ module _ (s : List ℕ) (off stop used above depth : ℕ) (v p r : List ℕ) (a 
       rw (q .added x refl, single-added (aboveOf above) x over (k .0) (here .leads)) wide
 
   -- a leaf has gone into the gap found
-  pub added-gap : (s′ : List ℕ) (n at : ℕ) (f : Forest) → used + n ≤ length s → length t ≡ stop - off → n ≡ length (encode (alone (keyOf v p r) none))
-      → Passed t above (v ∷ p ∷ []) f at (λ g y. alone y g)
-      → s′ ≡ splice s (off + at) (encode (alone (keyOf v p r) none) ++ region s (off + at) (used - (off + at)))
+  pub added-gap : (s′ : List ℕ) (n at : ℕ) (f : Forest) → used + n ≤ length s → length t ≡ stop - off → n ≡ length (encode (newLeaf (keyOf v p r) none))
+      → Passed t above (v ∷ p ∷ []) f at (λ g y. newLeaf y g)
+      → s′ ≡ splice s (off + at) (encode (newLeaf (keyOf v p r) none) ++ region s (off + at) (used - (off + at)))
       → Replaced s off stop used (encode (added (aboveOf above) f (keyOf v p r))) s′ n
   added-gap s′ n at f fit lt ln q e =
       let x = keyOf v p r in
       let rest = encode (q .over) in
-      let leaf-bytes = encode (alone x none) in
+      let leaf-bytes = encode (newLeaf x none) in
       let ll : length t ≡ length (q .front) + length rest = ap length (q .bytes) ∙ length-append (q .front) rest in
       let wide = widened s s′ off stop used n (off + at) (off + at) (q .front) [] leaf-bytes rest (q .bytes) a b fit
       (omega (arith, q .here)) (omega arith) (omega (arith, ll, lt, q .here)) (record { is = e; long = omega (arith, ln) }) in
-      rw (q .added x refl, alone-before x (q .over)) wide
+      rw (q .added x refl, newLeaf-before x (q .over)) wide

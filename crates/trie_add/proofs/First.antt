@@ -12,9 +12,9 @@ use Rattle.buffer.specs.Numbers.{bytesOf}
 use Rattle.buffer.proofs.Digits.{length-bytesOf}
 use Rattle.buffer.proofs.Splice.{length-region}
 use Rattle.trie_theory.specs.Forest.{Strings, Key, Forest, none, leaf, inner}
-use Rattle.trie_theory.specs.Strings.{at, goesOn, commons, strip, remains, first}
+use Rattle.trie_theory.specs.Strings.{at, allBegin, commons, strip, remains, first}
 use Rattle.trie_theory.specs.Dimensions.{Above, below}
-use Rattle.trie_theory.specs.SmallTrie.{meets, alone, split, outcome, added, two, differing}
+use Rattle.trie_theory.specs.SmallTrie.{meets, newLeaf, split, outcome, added, two, differing}
 use Rattle.trie_theory.specs.Size.{height}
 use Rattle.trie_theory.specs.Encode.{Regular, encode, nodeBytes, suffixBytes}
 use Rattle.trie_read.specs.Heads.{front, bodyOf, headOf}
@@ -56,9 +56,9 @@ split-before : (above : Above) (node : Strings → Forest → Forest) (s : Strin
 unfolding encode split
 split-before above node s x more = simp append-nil
 
-pub alone-before : (y : Key) (more : Forest) → encode (alone y more) ≡ encode (alone y none) ++ encode more
-unfolding encode alone
-alone-before y more = simp append-nil
+pub newLeaf-before : (y : Key) (more : Forest) → encode (newLeaf y more) ≡ encode (newLeaf y none) ++ encode more
+unfolding encode newLeaf
+newLeaf-before y more = simp append-nil
 
 nothing-behind : (w : List ℕ) → w ++ encode none ≡ w
 unfolding encode
@@ -68,13 +68,13 @@ module _ (above : Above) (x : Key) where
   pub single-added : (f : Forest) → (f ≡ none → ⊥) → meets above (top f) (x .strings) ≡ true → encode (added above f x) ≡ encode (added above (single f) x) ++ encode (siblings f)
   unfolding encode single siblings top added outcome
   single-added none n m = absurd (n refl)
-  single-added (leaf s ts more) n m = rw m (go (goesOn s (x .strings)))
+  single-added (leaf s ts more) n m = rw m (go (allBegin s (x .strings)))
     where
       go : (b : Bool) → encode (cond b (leaf s (ts ++ (remains s x ∷ [])) more) (split above (λ s′ k. leaf s′ ts k) s x more))
           ≡ encode (cond b (leaf s (ts ++ (remains s x ∷ [])) none) (split above (λ s′ k. leaf s′ ts k) s x none)) ++ encode more
       go true = simp append-nil
       go false = split-before above (λ s′ k. leaf s′ ts k) s x more
-  single-added (inner d s kids more) n m = rw m (go (goesOn s (x .strings)))
+  single-added (inner d s kids more) n m = rw m (go (allBegin s (x .strings)))
     where
       go : (b : Bool) → encode (cond b (inner d s (added (below d) kids (remains s x)) more) (split above (λ s′ k. inner d s′ kids k) s x more))
           ≡ encode (cond b (inner d s (added (below d) kids (remains s x)) none) (split above (λ s′ k. inner d s′ kids k) s x none)) ++ encode more
@@ -82,7 +82,7 @@ module _ (above : Above) (x : Key) where
       go false = split-before above (λ s′ k. inner d s′ kids k) s x more
 
   -- it agrees with the node's strings
-  pub single-agrees : (f : Forest) → (f ≡ none → ⊥) → meets above (top f) (x .strings) ≡ true → goesOn (top f) (x .strings) ≡ true
+  pub single-agrees : (f : Forest) → (f ≡ none → ⊥) → meets above (top f) (x .strings) ≡ true → allBegin (top f) (x .strings) ≡ true
       → encode (added above (single f) x) ≡ nodeBytes (kindOf f) (top f) (grownBody f (remains (top f) x))
   unfolding encode single kindOf top grownBody added outcome
   single-agrees none n m g = absurd (n refl)
@@ -91,16 +91,16 @@ module _ (above : Above) (x : Key) where
 
   two-bytes : (d kind : ℕ) (node : Strings → Forest → Forest) (body : List ℕ) (s : Strings) (y : Key)
       → ((s′ : Strings) (k : Forest) → encode (node s′ k) ≡ nodeBytes kind s′ body ++ encode k)
-      → encode (two d node s y) ≡ cond (ltb (first d (y .strings)) (first d s)) (encode (alone y none) ++ nodeBytes kind s body) (nodeBytes kind s body ++ encode (alone y none))
+      → encode (two d node s y) ≡ cond (ltb (first d (y .strings)) (first d s)) (encode (newLeaf y none) ++ nodeBytes kind s body) (nodeBytes kind s body ++ encode (newLeaf y none))
   unfolding two
   two-bytes d kind node body s y h = go (ltb (first d (y .strings)) (first d s))
     where
-      go : (b : Bool) → encode (cond b (alone y (node s none)) (node s (alone y none))) ≡ cond b (encode (alone y none) ++ nodeBytes kind s body) (nodeBytes kind s body ++ encode (alone y none))
-      go true = alone-before y (node s none) ∙ ap (λ (w : List ℕ). encode (alone y none) ++ w) (h s none ∙ nothing-behind (nodeBytes kind s body))
-      go false = h s (alone y none)
+      go : (b : Bool) → encode (cond b (newLeaf y (node s none)) (node s (newLeaf y none))) ≡ cond b (encode (newLeaf y none) ++ nodeBytes kind s body) (nodeBytes kind s body ++ encode (newLeaf y none))
+      go true = newLeaf-before y (node s none) ∙ ap (λ (w : List ℕ). encode (newLeaf y none) ++ w) (h s none ∙ nothing-behind (nodeBytes kind s body))
+      go false = h s (newLeaf y none)
 
   -- it differs from them
-  pub single-differs : (f : Forest) → (f ≡ none → ⊥) → meets above (top f) (x .strings) ≡ true → goesOn (top f) (x .strings) ≡ false
+  pub single-differs : (f : Forest) → (f ≡ none → ⊥) → meets above (top f) (x .strings) ≡ true → allBegin (top f) (x .strings) ≡ false
       → encode (added above (single f) x) ≡ splitBytes above (kindOf f) (top f) (bodyOf f) x
   unfolding encode single kindOf top bodyOf added outcome split splitBytes remains
   single-differs none n m g = absurd (n refl)

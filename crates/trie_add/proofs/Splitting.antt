@@ -12,12 +12,12 @@ use Rattle.buffer.proofs.Splice.{splice-insert, region-add, length-region}
 use Rattle.trie_theory.specs.Forest.{Strings, Key, Forest, none}
 use Rattle.trie_theory.specs.Strings.{common, commons, strip, remains, first}
 use Rattle.trie_theory.specs.Dimensions.{Above, branching}
-use Rattle.trie_theory.specs.SmallTrie.{alone, differing}
+use Rattle.trie_theory.specs.SmallTrie.{newLeaf, differing}
 use Rattle.trie_theory.specs.Encode.{encode, nodeBytes}
 use Rattle.trie_read.specs.Shape.{keyOf, aboveOf}
 use Rattle.trie_read.specs.Heads.{front}
 use Rattle.trie_read.proofs.Node.{node-is, length-front}
-use Rattle.trie_write.proofs.Alone.{length-alone}
+use Rattle.trie_write.proofs.NewLeaf.{length-newLeaf}
 use Rattle.trie_add.specs.Replaced.{Replaced, splitBytes}
 use Rattle.trie_add.proofs.Fronts.{fronts, length-fronts}
 
@@ -46,7 +46,7 @@ module _ (above : Above) (kind : ℕ) (nv np body v p r : List ℕ) (h : length 
   d = differing above left
 
   abbrev new : List ℕ
-  new = encode (alone (keyOf (drop a v) (drop b p) r) none)
+  new = encode (newLeaf (keyOf (drop a v) (drop b p) r) none)
 
   abbrev old : List ℕ
   old = front kind left (length body)
@@ -62,8 +62,8 @@ module _ (above : Above) (kind : ℕ) (nv np body v p r : List ℕ) (h : length 
 
   length-kids : (t : Bool) → length (kids t) ≡ size
   unfolding kids
-  length-kids true = omega (arith, length-append new (old ++ body), length-append old body, length-front kind left (length body), length-alone (drop a v) (drop b p) r h)
-  length-kids false = omega (arith, length-append (old ++ body) new, length-append old body, length-front kind left (length body), length-alone (drop a v) (drop b p) r h)
+  length-kids true = omega (arith, length-append new (old ++ body), length-append old body, length-front kind left (length body), length-newLeaf (drop a v) (drop b p) r h)
+  length-kids false = omega (arith, length-append (old ++ body) new, length-append old body, length-front kind left (length body), length-newLeaf (drop a v) (drop b p) r h)
 
   pub split-is : splitBytes above kind (nv ∷ np ∷ []) body (keyOf v p r) ≡ front (suc d) (take a nv ∷ take b np ∷ []) size ++ kids test
   unfolding splitBytes commons strip remains kids
@@ -108,7 +108,7 @@ module _ (above : Above) (kind : ℕ) (nv np body v p r : List ℕ) (h : length 
     fronted-all = fronted ∙ rw (branches, whole, alike, behind, append-assoc one old (body ++ tail))
 
     new-long : length new ≡ 29 + length (drop a v) + length (drop b p)
-    new-long = length-alone (drop a v) (drop b p) r h
+    new-long = length-newLeaf (drop a v) (drop b p) r h
 
     replaced : (t : Bool) → test ≡ t → s₂ ≡ splice s at (one ++ (kids t ++ tail)) → Replaced s at next used (splitBytes above kind (nv ∷ np ∷ []) body (keyOf v p r)) s₂ (7 + (29 + length (drop a v) + length (drop b p)))
     replaced t e q =

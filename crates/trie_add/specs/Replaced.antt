@@ -10,7 +10,7 @@ use Rattle.trie_theory.specs.Forest.{Strings, Key, Forest, none}
 use Rattle.trie_theory.specs.Strings.{common, commons, strip, remains, first}
 use Rattle.trie_theory.specs.Dimensions.{Above, branching}
 use Rattle.trie_read.specs.Shape.{aboveOf}
-use Rattle.trie_theory.specs.SmallTrie.{alone, differing}
+use Rattle.trie_theory.specs.SmallTrie.{newLeaf, differing}
 use Rattle.trie_theory.specs.Encode.{encode, nodeBytes}
 use Rattle.trie_add.specs.declared.split.Cut.{Cut}
 
@@ -26,7 +26,7 @@ splitBytes above kind s body x =
     let p = commons s (x .strings) in
     let d = differing above (strip p s) in
     let old = nodeBytes kind (strip p s) body in
-    let new = encode (alone (remains p x) none) in
+    let new = encode (newLeaf (remains p x) none) in
     nodeBytes (suc d) p (cond (ltb (first d (strip p (x .strings))) (first d (strip p s))) (new ++ old) (old ++ new))
 
 -- the cut of a node with the strings nv and np, for a key with the strings v and p

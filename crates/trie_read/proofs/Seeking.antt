@@ -14,7 +14,7 @@ use Rattle.buffer.proofs.Tests.{and-left, and-right}
 use Rattle.trie_theory.specs.Forest.{Strings, Key, Forest, none, leaf, inner, tops}
 use Rattle.buffer.specs.Lists.{flat}
 use Rattle.trie_theory.specs.Dimensions.{Above, below, branching}
-use Rattle.trie_theory.specs.SmallTrie.{meets, ahead, alone, outcome, added}
+use Rattle.trie_theory.specs.SmallTrie.{meets, precedes, newLeaf, outcome, added}
 use Rattle.trie_theory.specs.Sound.{Ascending}
 use Rattle.trie_theory.specs.Size.{height}
 use Rattle.trie_theory.specs.Encode.{Regular, encode, nodeBytes, suffixBytes}
@@ -40,12 +40,12 @@ unfolding meets
 meets-byte above s k e = eq-eqb (branching above s) (branching above k) e
 
 module _ (above : Above) (k s : Strings) where
-  pub ahead-yes : (us : List Strings) → branching above k < branching above s → all (λ t. ltb (branching above s) (branching above t)) us ≡ true
+  pub precedes-yes : (us : List Strings) → branching above k < branching above s → all (λ t. ltb (branching above s) (branching above t)) us ≡ true
       → all (λ t. ltb (branching above k) (branching above t)) (s ∷ us) ≡ true
-  ahead-yes us l a = rw (lt-ltb (branching above k) (branching above s) l) (later-too (branching above k) (branching above s) (branching above) us l a)
+  precedes-yes us l a = rw (lt-ltb (branching above k) (branching above s) l) (later-too (branching above k) (branching above s) (branching above) us l a)
 
-  pub ahead-no : (us : List Strings) → branching above s ≤ branching above k → all (λ t. ltb (branching above k) (branching above t)) (s ∷ us) ≡ false
-  ahead-no us l = rw (le-ltb (branching above k) (branching above s) l)
+  pub precedes-no : (us : List Strings) → branching above s ≤ branching above k → all (λ t. ltb (branching above k) (branching above t)) (s ∷ us) ≡ false
+  precedes-no us l = rw (le-ltb (branching above k) (branching above s) l)
 
   pub apart : (branching above s ≡ branching above k → ⊥) → meets above s k ≡ false
   apart n = meets-apart above s k n
@@ -56,21 +56,21 @@ module _ (above : Above) (k s : Strings) where
 module _ (above : Above) (s : Strings) (more : Forest) (x : Key) where
   module _ (ts : List Key) where
     leaf-later : branching above s < branching above (x .strings) → added above (leaf s ts more) x ≡ leaf s ts (added above more x)
-    unfolding added outcome ahead tops
-    leaf-later l = rw (apart above (x .strings) s (λ e. omega arith), ahead-no above (x .strings) s (tops more) (omega arith))
+    unfolding added outcome precedes tops
+    leaf-later l = rw (apart above (x .strings) s (λ e. omega arith), precedes-no above (x .strings) s (tops more) (omega arith))
 
-    leaf-before : branching above (x .strings) < branching above s → ahead above s more ≡ true → added above (leaf s ts more) x ≡ alone x (leaf s ts more)
-    unfolding added outcome ahead tops
-    leaf-before l a = rw (apart above (x .strings) s (λ e. omega arith), ahead-yes above (x .strings) s (tops more) l a)
+    leaf-before : branching above (x .strings) < branching above s → precedes above s more ≡ true → added above (leaf s ts more) x ≡ newLeaf x (leaf s ts more)
+    unfolding added outcome precedes tops
+    leaf-before l a = rw (apart above (x .strings) s (λ e. omega arith), precedes-yes above (x .strings) s (tops more) l a)
 
   module _ (d : ℕ) (kids : Forest) where
     inner-later : branching above s < branching above (x .strings) → added above (inner d s kids more) x ≡ inner d s kids (added above more x)
-    unfolding added outcome ahead tops
-    inner-later l = rw (apart above (x .strings) s (λ e. omega arith), ahead-no above (x .strings) s (tops more) (omega arith))
+    unfolding added outcome precedes tops
+    inner-later l = rw (apart above (x .strings) s (λ e. omega arith), precedes-no above (x .strings) s (tops more) (omega arith))
 
-    inner-before : branching above (x .strings) < branching above s → ahead above s more ≡ true → added above (inner d s kids more) x ≡ alone x (inner d s kids more)
-    unfolding added outcome ahead tops
-    inner-before l a = rw (apart above (x .strings) s (λ e. omega arith), ahead-yes above (x .strings) s (tops more) l a)
+    inner-before : branching above (x .strings) < branching above s → precedes above s more ≡ true → added above (inner d s kids more) x ≡ newLeaf x (inner d s kids more)
+    unfolding added outcome precedes tops
+    inner-before l a = rw (apart above (x .strings) s (λ e. omega arith), precedes-yes above (x .strings) s (tops more) l a)
 
 -- the first of tries whose bytes are u, leaf or inner node: its own bytes, and what an addition does there
 pub record Sibling (above : Above) (g : Forest) (u : List ℕ) (path start next : ℕ) : Type 0 where
@@ -86,7 +86,7 @@ pub record Sibling (above : Above) (g : Forest) (u : List ℕ) (path start next 
   pub ascends : Ascending above more
   pub lower : height more ≤ height g
   pub later : (x : Key) → branching above strings < branching above (x .strings) → encode (added above g x) ≡ own ++ encode (added above more x)
-  pub before : (x : Key) → branching above (x .strings) < branching above strings → added above g x ≡ alone x g
+  pub before : (x : Key) → branching above (x .strings) < branching above strings → added above g x ≡ newLeaf x g
 
 sibling-leaf : (above : Above) (s : Strings) (ts : List Key) (more : Forest) (u : List ℕ) (path start next : ℕ)
     → Places u s (flat (map suffixBytes ts)) (encode more) path start next → length s ≡ 2 → Regular 2 more → Ascending above (leaf s ts more)
@@ -140,7 +140,7 @@ sibling above g u kind path start next h a e q =
     rw (v .is) (sibling-inner above (v .dimension) (v .strings) (v .kids) (v .more) u path start next (v .places) (v .wide) (v .shaped) (rw (v .is) at a)))
     (same? kind 0)
 
-added-none : (above : Above) (g : Forest) (x : Key) → g ≡ none → added above g x ≡ alone x g
+added-none : (above : Above) (g : Forest) (x : Key) → g ≡ none → added above g x ≡ newLeaf x g
 unfolding added
 added-none above g x z = rw z
 
@@ -164,7 +164,7 @@ module _ {t u : List ℕ} {above at : ℕ} {k : Strings} {f : Forest} {head : He
   told = is (p .over) (p .shaped) (l .left)
 
   -- no sibling is left: the gap is at the end
-  pub seek-end : head ≡ End → Passed t above k f at (λ g x. alone x g)
+  pub seek-end : head ≡ End → Passed t above k f at (λ g x. newLeaf x g)
   seek-end e =
       let z : p .over ≡ none = head-end (p .over) (sym e ∙ told) in
       record {
@@ -205,7 +205,7 @@ module _ {t u : List ℕ} {above at : ℕ} {k : Strings} {f : Forest} {head : He
         ap₃ a b c = rw (a, b, c)
 
     -- its byte is greater: the gap is before it
-    pub seek-gap : branching (aboveOf above) k < branching (aboveOf above) nodeStrings → Passed t above k f at (λ g x. alone x g)
+    pub seek-gap : branching (aboveOf above) k < branching (aboveOf above) nodeStrings → Passed t above k f at (λ g x. newLeaf x g)
     seek-gap b =
         record {
           front = p .front;

@@ -9,7 +9,7 @@ use lib.ListN.{length, drop}
 use lib.Dec.{eqb}
 use borrow.Author.Tests.{eq-eqb}
 use Rattle.trie_theory.specs.Forest.{Strings, Key, Forest, none, leaf, inner}
-use Rattle.trie_theory.specs.Strings.{begins, goesOn, strip, remains, first, at}
+use Rattle.trie_theory.specs.Strings.{begins, allBegin, strip, remains, first, at}
 use Rattle.buffer.specs.Lists.{All}
 use Rattle.trie_theory.specs.Dimensions.{Above, root, below, branching}
 use Rattle.trie_theory.specs.SmallTrie.{meets}
@@ -28,12 +28,12 @@ use Rattle.trie_read.specs.declared.head.Head.the-variants.{End, Bad, No
 use Rattle.trie_read.specs.Shape.{Fixed, part, keyOf, aboveOf}
 
 module _ (nv np v p : List ℕ) where
-  pub goes-on : begins nv v ≡ true → goesOn (nv ∷ np ∷ []) (v ∷ p ∷ []) ≡ begins np p
-  unfolding goesOn
+  pub goes-on : begins nv v ≡ true → allBegin (nv ∷ np ∷ []) (v ∷ p ∷ []) ≡ begins np p
+  unfolding allBegin
   goes-on e = rw e (and-true (begins np p))
 
-  pub goes-off : begins nv v ≡ false → goesOn (nv ∷ np ∷ []) (v ∷ p ∷ []) ≡ false
-  unfolding goesOn
+  pub goes-off : begins nv v ≡ false → allBegin (nv ∷ np ∷ []) (v ∷ p ∷ []) ≡ false
+  unfolding allBegin
   goes-off e = rw e
 
 -- ---- the steps
@@ -53,11 +53,11 @@ module _ (above : Above) (s : Strings) (more : Forest) (x : Key) where
   unfolding member
   leaf-past ts m = rw m
 
-  leaf-off : (ts : List Key) → meets above s (x .strings) ≡ true → goesOn s (x .strings) ≡ false → member above (leaf s ts more) x ≡ false
+  leaf-off : (ts : List Key) → meets above s (x .strings) ≡ true → allBegin s (x .strings) ≡ false → member above (leaf s ts more) x ≡ false
   unfolding member
   leaf-off ts m g = rw (m, g)
 
-  leaf-in : (ts : List Key) → meets above s (x .strings) ≡ true → goesOn s (x .strings) ≡ true → member above (leaf s ts more) x ≡ among (remains s x) ts
+  leaf-in : (ts : List Key) → meets above s (x .strings) ≡ true → allBegin s (x .strings) ≡ true → member above (leaf s ts more) x ≡ among (remains s x) ts
   unfolding member
   leaf-in ts m g = rw (m, g)
 
@@ -65,18 +65,18 @@ module _ (above : Above) (s : Strings) (more : Forest) (x : Key) where
   unfolding member
   inner-past d kids m = rw m
 
-  inner-off : (d : ℕ) (kids : Forest) → meets above s (x .strings) ≡ true → goesOn s (x .strings) ≡ false → member above (inner d s kids more) x ≡ false
+  inner-off : (d : ℕ) (kids : Forest) → meets above s (x .strings) ≡ true → allBegin s (x .strings) ≡ false → member above (inner d s kids more) x ≡ false
   unfolding member
   inner-off d kids m g = rw (m, g)
 
-  inner-in : (d : ℕ) (kids : Forest) → meets above s (x .strings) ≡ true → goesOn s (x .strings) ≡ true
+  inner-in : (d : ℕ) (kids : Forest) → meets above s (x .strings) ≡ true → allBegin s (x .strings) ≡ true
       → member above (inner d s kids more) x ≡ member (below d) kids (remains s x)
   unfolding member
   inner-in d kids m g = rw (m, g)
 
 -- a key goes on from strings no longer than its own
-pub on-lengths : (nv np v p : List ℕ) → goesOn (nv ∷ np ∷ []) (v ∷ p ∷ []) ≡ true → (length nv ≤ length v) × (length np ≤ length p)
-unfolding goesOn
+pub on-lengths : (nv np v p : List ℕ) → allBegin (nv ∷ np ∷ []) (v ∷ p ∷ []) ≡ true → (length nv ≤ length v) × (length np ≤ length p)
+unfolding allBegin
 on-lengths nv np v p e =
     (begins-length nv v (and-left (begins nv v) (begins np p && true) e), begins-length np p (and-left (begins np p) true (and-right (begins nv v) (begins np p && true) e)))
 
@@ -136,7 +136,7 @@ module _ {t v p r : List ℕ} {above : ℕ} {f : Forest} {x : Key} {head : Head}
         (same? kind 0)
 
     -- it leads here, and the strings differ: nowhere
-    pub walk-off : meets (aboveOf above) nodeStrings (v ∷ p ∷ []) ≡ true → goesOn nodeStrings (v ∷ p ∷ []) ≡ false → false ≡ member root f x
+    pub walk-off : meets (aboveOf above) nodeStrings (v ∷ p ∷ []) ≡ true → allBegin nodeStrings (v ∷ p ∷ []) ≡ false → false ≡ member root f x
     walk-off m o =
         ⊎-elim
         (λ z. let g = as-leaf z in
@@ -157,7 +157,7 @@ module _ {t v p r : List ℕ} {above : ℕ} {f : Forest} {x : Key} {head : Head}
         let b : start - path ≡ length (at 1 s) = omega (arith, pl .path-at, pl .start-at) in
         rw (a, b, part-from v (length (at 0 s)), part-from p (length (at 1 s)), two s wide) (rest-two (at 0 s) (at 1 s) v p r)
 
-    module _ (m : meets (aboveOf above) nodeStrings (v ∷ p ∷ []) ≡ true) (o : goesOn nodeStrings (v ∷ p ∷ []) ≡ true) where
+    module _ (m : meets (aboveOf above) nodeStrings (v ∷ p ∷ []) ≡ true) (o : allBegin nodeStrings (v ∷ p ∷ []) ≡ true) where
       -- it leads here, and to a leaf
       pub walk-leaf : kind ≡ 0 → (b : Bool) → ((ts : List Key) → All Fixed ts → part start next t ≡ suffixesBytes ts → b ≡ among left ts) → b ≡ member root f x
       walk-leaf z b h =

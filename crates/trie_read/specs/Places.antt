@@ -5,7 +5,7 @@ use mathlib.Core.Bool.{true}
 use mathlib.Core.List.{List, [], _++_}
 use lib.ListN.{length}
 use Rattle.trie_theory.specs.Forest.{Strings, Key, Forest, none, leaf, inner}
-use Rattle.trie_theory.specs.SmallTrie.{meets, alone, added}
+use Rattle.trie_theory.specs.SmallTrie.{meets, newLeaf, added}
 use Rattle.trie_theory.specs.Sound.{Ascending}
 use Rattle.trie_theory.specs.Size.{height}
 use Rattle.trie_theory.specs.Encode.{Regular, encode}
@@ -41,7 +41,7 @@ pub record Here (t : List ℕ) (above : ℕ) (k : Strings) (f : Forest) (at kind
 
 abbrev pub Found : List ℕ → ℕ → Strings → Forest → Place → Type 0
 Found t above k f (Node at kind path body next) = Here t above k f at kind path body next
-Found t above k f (Gap at) = Passed t above k f at (λ g x. alone x g)
+Found t above k f (Gap at) = Passed t above k f at (λ g x. newLeaf x g)
 Found t above k f Bad = ⊥
 
 -- the places lie in n bytes, in their sequence, and kind and lengths are bytes

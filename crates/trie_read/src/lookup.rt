@@ -9,7 +9,7 @@ use crate::suffixes::has_suffix;
 ghost use mathlib.Core.Path.{_≡_};
 ghost use mathlib.Core.List.{[], _∷_};
 ghost use Rattle.trie_theory.specs.Forest.{Forest};
-ghost use Rattle.trie_theory.specs.Strings.{goesOn};
+ghost use Rattle.trie_theory.specs.Strings.{allBegin};
 ghost use Rattle.trie_theory.specs.Dimensions.{root};
 ghost use Rattle.trie_theory.specs.SmallTrie.{meets};
 ghost use Rattle.trie_theory.specs.Lookup.{member};
@@ -27,7 +27,7 @@ pub fn same_branch(above: usize, nv: &[u8], np: &[u8], value: &[u8], path: &[u8]
 // Does the key begin with the node's strings?
 pub fn agrees(nv: &[u8], np: &[u8], value: &[u8], path: &[u8]) -> bool
     ensures { λ r.
-        ⌜ r ≡ goesOn (now (nv .entry) ∷ now (np .entry) ∷ []) (now (value .entry) ∷ now (path .entry) ∷ []) ⌝ }
+        ⌜ r ≡ allBegin (now (nv .entry) ∷ now (np .entry) ∷ []) (now (value .entry) ∷ now (path .entry) ∷ []) ⌝ }
 {
     if begins(nv, value) {
         return begins(np, path);

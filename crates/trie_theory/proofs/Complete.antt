@@ -10,7 +10,7 @@ use Rattle.trie_theory.specs.Forest.{Strings, Key}
 use Rattle.buffer.specs.Sizes.{valueSize, pathLimit}
 use Rattle.buffer.specs.Lists.{All, nil, cons}
 use Rattle.trie_theory.specs.Strings.{at, total}
-use Rattle.trie_theory.specs.Entries.{complete, Stops, isValue, isPath, dims, keyLimit, Entry}
+use Rattle.trie_theory.specs.Entries.{complete, Stops, isValue, isPath, dims, keyLimit, OfEntry}
 use Rattle.buffer.proofs.Tests.{and-left, and-right}
 use Rattle.trie_theory.proofs.Free.{Free}
 
@@ -65,9 +65,9 @@ entry-bytes (v ∷ []) e l = absurd (false≢true (and-right (isValue v) false e
 entry-bytes (v ∷ p ∷ []) e l = omega (arith, l, eqb-true (length v) valueSize (and-left (isValue v) (isPath p && true) e))
 entry-bytes (v ∷ p ∷ q ∷ ss) e l = absurd (false≢true (and-right (isPath p) false (and-right (isValue v) (isPath p && false) e)))
 
-pub entry-total : (x : Key) → Entry x → total (x .strings) ≤ keyLimit
+pub entry-total : (x : Key) → OfEntry x → total (x .strings) ≤ keyLimit
 entry-total x e = entry-bytes (x .strings) (e .whole) (e .short)
 
-pub entry-wide : (x : Key) → Entry x → length (x .strings) ≡ 2
+pub entry-wide : (x : Key) → OfEntry x → length (x .strings) ≡ 2
 unfolding dims
 entry-wide x e = complete-wide dims (x .strings) (e .whole)

@@ -12,7 +12,7 @@ use Rattle.buffer.specs.Lists.{all, All, nil, cons}
 use Rattle.trie_theory.specs.Forest.{Strings, Key}
 use Rattle.trie_theory.specs.Strings.{common, strip, at, first}
 use Rattle.trie_theory.specs.Position.{narrow, shared, position, byte, differ}
-use Rattle.trie_theory.specs.Entries.{Entry}
+use Rattle.trie_theory.specs.Entries.{OfEntry}
 use Rattle.buffer.proofs.Lists.{In, at-head, later, all-head, all-tail, all-imp, all-both, all-in}
 use Rattle.trie_theory.proofs.Prefix.{Prefix, shared-all, prefixes-at, prefix-trans}
 use Rattle.trie_theory.proofs.Strings.{drop-prefix, at-strip, first-at}
@@ -90,7 +90,7 @@ bytes-at zero (cons h a) = h
 bytes-at (suc d) (cons h a) = bytes-at d a
 
 -- so for entries
-pub entries-equal : (d : ℕ) (ks : List Key) → All Entry ks → differ d ks ≡ false → (y z : Key) → In y ks → In z ks
+pub entries-equal : (d : ℕ) (ks : List Key) → All OfEntry ks → differ d ks ≡ false → (y z : Key) → In y ks → In z ks
     → at d (y .strings) ≡ at d (z .strings)
 entries-equal d ks a =
     differ-false d ks (λ y z i j. complete-free dims-stop y z (all-in a i .whole) (all-in a j .whole))

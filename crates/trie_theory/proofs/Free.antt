@@ -9,11 +9,11 @@ use lib.ListN.{length, drop}
 use lib.Dec.{eqb, ltb}
 use borrow.Author.Tests.{eqb-false, ltb-true, ltb-false, eq-eqb}
 use Rattle.trie_theory.specs.Forest.{Strings, Key, join, under}
-use Rattle.trie_theory.specs.Strings.{goesOn, common, commons, strip, remains, at, first}
+use Rattle.trie_theory.specs.Strings.{allBegin, common, commons, strip, remains, at, first}
 use Rattle.trie_theory.specs.Dimensions.{Above, root, below, wanted, turn, branching}
 use Rattle.trie_theory.specs.SmallTrie.{meets, chosen, differing}
 use Rattle.trie_theory.specs.Sound.{Starts}
-use Rattle.trie_theory.proofs.Prefix.{Prefixes, From, prefixes-goesOn, commons-left, commons-right}
+use Rattle.trie_theory.proofs.Prefix.{Prefixes, From, prefixes-allBegin, commons-left, commons-right}
 use Rattle.trie_theory.proofs.Strings.{join-strip, at-join, at-strip, first-at, length-strip, length-commons}
 use Rattle.trie_theory.proofs.Round.{turn-passes, turn-none, wanted-inside}
 use Rattle.trie_theory.proofs.Branching.{meets-true}
@@ -134,7 +134,7 @@ blank-join (a ∷ a′) (b ∷ bs) e h =
     (blank-join a′ bs (omega arith) (λ d l. h (suc d) (omega arith)))
 
 -- THE NEW PARENT'S DIMENSION: a node that does not agree with a key has bytes left there
-pub differing-starts : (above : Above) (s k : Strings) → length s ≡ length k → Starts above s → goesOn s k ≡ false
+pub differing-starts : (above : Above) (s k : Strings) → length s ≡ length k → Starts above s → allBegin s k ≡ false
     → let p = commons s k in Starts (below (differing above (strip p s))) (strip p s)
 unfolding Starts differing chosen
 differing-starts above s k e f g = go (turn t (length l) above) refl
@@ -152,8 +152,8 @@ differing-starts above s k e f g = go (turn t (length l) above) refl
     empty [] m = refl
     empty (x ∷ b) m = absurd (omega arith)
 
-    some-strings : (s : Strings) → goesOn s k ≡ false → 0 < length s
-    some-strings [] g = absurd (false≢true (sym (unfold goesOn in g)))
+    some-strings : (s : Strings) → allBegin s k ≡ false → 0 < length s
+    some-strings [] g = absurd (false≢true (sym (unfold allBegin in g)))
     some-strings (x ∷ s) g = omega arith
 
     go : (o : Option ℕ) → turn t (length l) above ≡ o → at (chosen o) l ≡ [] → ⊥
@@ -165,4 +165,4 @@ differing-starts above s k e f g = go (turn t (length l) above) refl
         sym (blank-join (commons s k) l wide (λ d m. empty (at d l)
         (ltb-false 0 (length (at d l)) (turn-none t (length l) above inside q d m))))
         ∙ join-strip (commons s k) s (commons-left s k) in
-        false≢true (sym g ∙ prefixes-goesOn s k (rw agrees at (commons-right s k)))
+        false≢true (sym g ∙ prefixes-allBegin s k (rw agrees at (commons-right s k)))

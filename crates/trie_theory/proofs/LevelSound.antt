@@ -16,7 +16,7 @@ use Rattle.trie_theory.specs.Dimensions.{Above, root, below, branching}
 use Rattle.trie_theory.specs.Position.{shared}
 use Rattle.trie_theory.specs.Parts.{parts}
 use Rattle.trie_theory.specs.Level.{choice, node, each, grow, trie, levelOf}
-use Rattle.trie_theory.specs.SmallTrie.{ahead}
+use Rattle.trie_theory.specs.SmallTrie.{precedes}
 use Rattle.trie_theory.specs.Sound.{Starts, Wide, Node, Sound, Ascending}
 use Rattle.buffer.proofs.Lists.{all-imp, all-both, all-map, all-test}
 use Rattle.trie_theory.proofs.Prefix.{From, shared-all}
@@ -40,7 +40,7 @@ module _ (n τ : ℕ) where
       → Starts above (strip k (shared (x ∷ xs))) → Below above (strip k (shared (x ∷ xs))) more → Well n above more
       → ((d : ℕ) → o ≡ some d → (2 ≤ length (tops (children d))) × Well n (below d) (children d))
       → Well n above (node k (x ∷ xs) o children more)
-  unfolding node Sound Ascending ahead remains
+  unfolding node Sound Ascending precedes remains
   node-well above k x xs o children more w s b m ih = go o ih
     where
       p : Strings
@@ -53,7 +53,7 @@ module _ (n τ : ℕ) where
         apart = all-imp (λ t l e. omega arith) b;
       }
 
-      before : ahead above p more ≡ true
+      before : precedes above p more ≡ true
       before =
           all-test (λ t. ltb (branching above p) (branching above t)) (all-imp (λ t l. lt-ltb (branching above p) (branching above t) l) b)
 

@@ -11,7 +11,7 @@ use lib.Dec.{eqb}
 use borrow.Author.Tests.{eqb-true, eqb-false, eq-eqb}
 use Rattle.trie_theory.specs.Forest.{Strings, Key, Forest, keys}
 use Rattle.buffer.specs.Lists.{All}
-use Rattle.trie_theory.specs.Strings.{goesOn, remains, at}
+use Rattle.trie_theory.specs.Strings.{allBegin, remains, at}
 use Rattle.trie_theory.specs.Dimensions.{Above, root, below}
 use Rattle.trie_theory.specs.Position.{shared, byte, position, differ}
 use Rattle.trie_theory.specs.Parts.{keep, filled, partsFrom, parts}
@@ -20,7 +20,7 @@ use Rattle.trie_theory.specs.Walk.{Step, stepAt, kindOf, follow, sequenc
 use Rattle.buffer.proofs.Lists.{In, at-head, later, all-imp, all-head, all-in, all-pick, all-both, all-every, in-pick}
 use Rattle.buffer.proofs.Tests.{not-true}
 use Rattle.buffer.proofs.Sums.{equal-length}
-use Rattle.trie_theory.proofs.Prefix.{Prefixes, From, shared-all, shared-greatest, prefixes-goesOn, goesOn-prefixes, prefixes-trans}
+use Rattle.trie_theory.proofs.Prefix.{Prefixes, From, shared-all, shared-greatest, prefixes-allBegin, allBegin-prefixes, prefixes-trans}
 use Rattle.trie_theory.proofs.Strings.{join-strip}
 use Rattle.trie_theory.proofs.Parts.{differ-all, differ-inside, extend, extend-in, extend-out}
 use Rattle.trie_theory.proofs.LevelStep.{children, choice-differ}
@@ -40,25 +40,25 @@ shared-in p (later i) a = shared-greatest p a
 
 module _ (x : Key) (k : Strings) (ks : List Key) (more : Forest) (above : Prefixes k (shared ks)) where
   -- a node with whose bytes x does not go on is passed over
-  node-skip : (o : Option ℕ) (children : ℕ → Forest) → goesOn (shared ks) (x .strings) ≡ false
+  node-skip : (o : Option ℕ) (children : ℕ → Forest) → allBegin (shared ks) (x .strings) ≡ false
       → walk k (node k ks o children more) x ≡ walk k more x
   unfolding node walk
-  node-skip none children e = on-false _ _ _ (ap (λ (l : Strings). goesOn l (x .strings)) (join-strip k (shared ks) above) ∙ e)
-  node-skip (some d) children e = on-false _ _ _ (ap (λ (l : Strings). goesOn l (x .strings)) (join-strip k (shared ks) above) ∙ e)
+  node-skip none children e = on-false _ _ _ (ap (λ (l : Strings). allBegin l (x .strings)) (join-strip k (shared ks) above) ∙ e)
+  node-skip (some d) children e = on-false _ _ _ (ap (λ (l : Strings). allBegin l (x .strings)) (join-strip k (shared ks) above) ∙ e)
 
   leaf-enter : (children : ℕ → Forest) → From (shared ks) x
       → walk k (node k ks none children more) x ≡ stepAt (shared ks) (length ks) 0 ∷ []
   unfolding node walk
   leaf-enter children h =
       rw (join-strip k (shared ks) above)
-      (on-true _ _ _ (prefixes-goesOn (shared ks) (x .strings) h)
+      (on-true _ _ _ (prefixes-allBegin (shared ks) (x .strings) h)
       ∙ ap (λ (m : ℕ). stepAt (shared ks) m 0 ∷ []) (length-map ks (remains (shared ks))))
 
   inner-enter : (d : ℕ) (children : ℕ → Forest) → From (shared ks) x
       → walk k (node k ks (some d) children more) x
       ≡ stepAt (shared ks) (length (keys (shared ks) (children d))) (suc d) ∷ walk (shared ks) (children d) x
   unfolding node walk
-  inner-enter d children h = rw (join-strip k (shared ks) above) (on-true _ _ _ (prefixes-goesOn (shared ks) (x .strings) h))
+  inner-enter d children h = rw (join-strip k (shared ks) above) (on-true _ _ _ (prefixes-allBegin (shared ks) (x .strings) h))
 
 module _ (x : Key) (d : ℕ) (p : Strings) (g : List Key → Forest → Forest) (ks : List Key) (r : List Step) (i : In x ks)
     (own : (more : Forest) → walk p (g (keep d p (byte d p x) ks) more) x ≡ r)
@@ -102,7 +102,7 @@ part-of x d ks = keep d (shared ks) (byte d (shared ks) x) ks
 
 module _ (n τ : ℕ) (x : Key) where
   grow-skip : (f : ℕ) (above : Above) (k : Strings) (ks : List Key) (more : Forest) → Prefixes k (shared ks)
-      → goesOn (shared ks) (x .strings) ≡ false
+      → allBegin (shared ks) (x .strings) ≡ false
       → walk k (grow n τ f above k ks more) x ≡ walk k more x
   unfolding grow
   grow-skip zero above k ks more h e = node-skip x k ks more h none (λ d. Forest.none) e
@@ -110,14 +110,14 @@ module _ (n τ : ℕ) (x : Key) where
 
   -- x does not go on with the bytes of a part that has another byte
   part-skip : (d c : ℕ) (p : Strings) (y : Key) (ys : List Key) → d < length p → c < 256 → (byte d p x ≡ c → ⊥)
-      → All (λ z. From p z × (byte d p z ≡ c)) (y ∷ ys) → goesOn (shared (y ∷ ys)) (x .strings) ≡ false
+      → All (λ z. From p z × (byte d p z ≡ c)) (y ∷ ys) → allBegin (shared (y ∷ ys)) (x .strings) ≡ false
   unfolding byte
   part-skip d c p y ys i u ne a =
-      not-true (goesOn (shared (y ∷ ys)) (x .strings))
+      not-true (allBegin (shared (y ∷ ys)) (x .strings))
       (λ e. ne (extend-out d c p (x .strings) i
       (prefixes-trans (extend d c p) (shared (y ∷ ys)) (x .strings)
       (shared-greatest (extend d c p) (all-imp (λ z q. extend-in d c p (z .strings) u (q .0) (q .1)) a))
-      (goesOn-prefixes (shared (y ∷ ys)) (x .strings) e))))
+      (allBegin-prefixes (shared (y ∷ ys)) (x .strings) e))))
 
   -- the keys of ks with byte c
   kept-all : (d c : ℕ) (ks : List Key) → differ d ks ≡ true

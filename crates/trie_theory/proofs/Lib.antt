@@ -28,6 +28,6 @@ pub mod SmallStep
 pub mod SmallKept
 pub mod SmallSound
 pub mod SmallAscending
-pub mod SmallBare
+pub mod SmallSuffixes
 -- All of it together
 pub mod TrieOf

@@ -9,7 +9,7 @@ use lib.ListN.{length}
 use lib.Dec.{eqb}
 use Rattle.trie_theory.specs.Forest.{Strings, Key, Forest, none, leaf, inner, join, under, keys, tops}
 use Rattle.buffer.specs.Lists.{All, nil, cons, any, same}
-use Rattle.trie_theory.specs.Strings.{goesOn, remains}
+use Rattle.trie_theory.specs.Strings.{allBegin, remains}
 use Rattle.trie_theory.specs.Dimensions.{Above, below, branching}
 use Rattle.trie_theory.specs.SmallTrie.{meets}
 use Rattle.trie_theory.specs.Lookup.{sameKey, among, member}
@@ -17,7 +17,7 @@ use Rattle.trie_theory.specs.Sound.{Node, Sound}
 use Rattle.buffer.proofs.Lists.{In, all-head, all-tail, all-imp, any-append}
 use Rattle.buffer.proofs.Tests.{and-left, and-right, and-both, bool-ext}
 use Rattle.buffer.proofs.Lists.{any-in, in-any, bytes-true, bytes-refl, strings-true, strings-refl}
-use Rattle.trie_theory.proofs.Prefix.{prefixes-goesOn, goesOn-prefixes, prefixes-join}
+use Rattle.trie_theory.proofs.Prefix.{prefixes-allBegin, allBegin-prefixes, prefixes-join}
 use Rattle.trie_theory.proofs.Strings.{strip-join}
 use Rattle.trie_theory.proofs.Branching.{branching-prefix, meets-true, meets-false, meets-apart}
 use Rattle.trie_theory.proofs.Keys.{keys-from, under-remains}
@@ -56,33 +56,33 @@ remains-under s y h = ap (λ (l : Strings). record { strings = l; reference = y 
 
 -- x is a key below the strings s: it agrees with them, and what remains of it is the rest
 same-under : (s : Strings) (x y : Key) → length s ≡ length (y .strings)
-    → sameKey x (under s y) ≡ goesOn s (x .strings) && sameKey (remains s x) y
+    → sameKey x (under s y) ≡ allBegin s (x .strings) && sameKey (remains s x) y
 unfolding under
-same-under s x y h = bool-ext (sameKey x (under s y)) (goesOn s (x .strings) && sameKey (remains s x) y) down up
+same-under s x y h = bool-ext (sameKey x (under s y)) (allBegin s (x .strings) && sameKey (remains s x) y) down up
   where
-    down : sameKey x (under s y) ≡ true → goesOn s (x .strings) && sameKey (remains s x) y ≡ true
+    down : sameKey x (under s y) ≡ true → allBegin s (x .strings) && sameKey (remains s x) y ≡ true
     down e =
         let q : x ≡ under s y = sameKey-true x (under s y) e in
-        and-both (ap (λ (z : Key). goesOn s (z .strings)) q ∙ prefixes-goesOn s (join s (y .strings)) (prefixes-join s (y .strings)))
+        and-both (ap (λ (z : Key). allBegin s (z .strings)) q ∙ prefixes-allBegin s (join s (y .strings)) (prefixes-join s (y .strings)))
         (sameKey-of (remains s x) y (ap (remains s) q ∙ remains-under s y h))
 
-    up : goesOn s (x .strings) && sameKey (remains s x) y ≡ true → sameKey x (under s y) ≡ true
+    up : allBegin s (x .strings) && sameKey (remains s x) y ≡ true → sameKey x (under s y) ≡ true
     up e =
-        let g = and-left (goesOn s (x .strings)) (sameKey (remains s x) y) e in
-        let r = sameKey-true (remains s x) y (and-right (goesOn s (x .strings)) (sameKey (remains s x) y) e) in
-        sameKey-of x (under s y) (sym (under-remains s x (goesOn-prefixes s (x .strings) g)) ∙ ap (under s) r)
+        let g = and-left (allBegin s (x .strings)) (sameKey (remains s x) y) e in
+        let r = sameKey-true (remains s x) y (and-right (allBegin s (x .strings)) (sameKey (remains s x) y) e) in
+        sameKey-of x (under s y) (sym (under-remains s x (allBegin-prefixes s (x .strings) g)) ∙ ap (under s) r)
 
 among-under : (s : Strings) (x : Key) {ys : List Key} → All (λ y. length s ≡ length (y .strings)) ys
-    → among x (map (under s) ys) ≡ goesOn s (x .strings) && among (remains s x) ys
+    → among x (map (under s) ys) ≡ allBegin s (x .strings) && among (remains s x) ys
 unfolding among any
-among-under s x nil = sym (and-false (goesOn s (x .strings)))
+among-under s x nil = sym (and-false (allBegin s (x .strings)))
   where
     and-false : (a : Bool) → a && false ≡ false
     and-false true = refl
     and-false false = refl
 among-under s x (cons {x = y} {xs = ys} h a) =
     ap₂ _||_ (same-under s x y h) (among-under s x a)
-    ∙ and-or (goesOn s (x .strings)) (sameKey (remains s x) y) (any (sameKey (remains s x)) ys)
+    ∙ and-or (allBegin s (x .strings)) (sameKey (remains s x) y) (any (sameKey (remains s x)) ys)
   where
     and-or : (a b c : Bool) → (a && b) || (a && c) ≡ a && (b || c)
     and-or true b c = refl
@@ -102,20 +102,20 @@ passed above s (inner d t children more) x a e =
 -- one node: `mine` is what it finds, all of it agreeing with its strings, and `others` what its siblings hold
 here-or-later : (n : ℕ) (above : Above) (s : Strings) (x : Key) (more : Forest) (mine others : Bool) → Node n above s more
     → member above more x ≡ others
-    → cond (meets above s (x .strings)) (goesOn s (x .strings) && mine) (member above more x) ≡ (goesOn s (x .strings) && mine) || others
-here-or-later n above s x more mine others h e = go (meets above s (x .strings)) refl (goesOn s (x .strings)) refl
+    → cond (meets above s (x .strings)) (allBegin s (x .strings) && mine) (member above more x) ≡ (allBegin s (x .strings) && mine) || others
+here-or-later n above s x more mine others h e = go (meets above s (x .strings)) refl (allBegin s (x .strings)) refl
   where
     or-false : (a : Bool) → a ≡ a || false
     or-false true = refl
     or-false false = refl
 
-    go : (w : Bool) → meets above s (x .strings) ≡ w → (b : Bool) → goesOn s (x .strings) ≡ b
+    go : (w : Bool) → meets above s (x .strings) ≡ w → (b : Bool) → allBegin s (x .strings) ≡ b
         → cond w (b && mine) (member above more x) ≡ (b && mine) || others
     go true p b q =
         or-false (b && mine)
         ∙ ap (λ (y : Bool). (b && mine) || y) (sym (sym e ∙ passed above s more x (h .apart) (meets-true above s (x .strings) p)))
     go false p true q =
-        absurd (meets-false above s (x .strings) p (branching-prefix above s (x .strings) (h .starts) (goesOn-prefixes s (x .strings) q)))
+        absurd (meets-false above s (x .strings) p (branching-prefix above s (x .strings) (h .starts) (allBegin-prefixes s (x .strings) q)))
     go false p false q = e
 
 pub member-among : (n : ℕ) (above : Above) (f : Forest) (x : Key) → Sound n above f → member above f x ≡ among x (keys [] f)
@@ -126,7 +126,7 @@ member-among n above (leaf s ts more) x h =
     ∙ ap (λ (b : Bool). b || among x (keys [] more)) (sym (among-under s x (all-imp (λ y e. h .0 .wide ∙ sym e) (h .2))))
     ∙ sym (any-append (sameKey x) (map (under s) ts) (keys [] more))
 member-among n above (inner d s children more) x h =
-    ap (λ (b : Bool). cond (meets above s (x .strings)) (goesOn s (x .strings) && b) (member above more x))
+    ap (λ (b : Bool). cond (meets above s (x .strings)) (allBegin s (x .strings) && b) (member above more x))
     (member-among n (below d) children (remains s x) (h .2))
     ∙ here-or-later n above s x more (among (remains s x) (keys [] children)) (among x (keys [] more)) (h .0)
     (member-among n above more x (h .3))

@@ -10,7 +10,7 @@ use lib.Dec.{eqb}
 use borrow.Author.Tests.{eqb-true, eqb-false, eq-eqb}
 use Rattle.trie_theory.specs.Forest.{Strings, Key, join}
 use Rattle.buffer.specs.Lists.{All, nil, cons}
-use Rattle.trie_theory.specs.Strings.{begins, goesOn, common, commons, at}
+use Rattle.trie_theory.specs.Strings.{begins, allBegin, common, commons, at}
 use Rattle.trie_theory.specs.Position.{narrow, shared}
 use Rattle.buffer.proofs.Lists.{all-imp, all-head, all-tail}
 use Rattle.buffer.proofs.Tests.{and-left, and-right, and-both}
@@ -45,18 +45,18 @@ prefix-begins [] s h = refl
 prefix-begins (a ∷ p) [] h = absurd h
 prefix-begins (a ∷ p) (b ∷ s) h = and-both (eq-eqb a b (h .0)) (prefix-begins p s (h .1))
 
-pub goesOn-prefixes : (p s : Strings) → goesOn p s ≡ true → Prefixes p s
-unfolding goesOn Prefixes
-goesOn-prefixes [] s e = tt
-goesOn-prefixes (p ∷ ps) [] e = absurd (false≢true e)
-goesOn-prefixes (p ∷ ps) (s ∷ ss) e =
-    (begins-prefix p s (and-left (begins p s) (goesOn ps ss) e), goesOn-prefixes ps ss (and-right (begins p s) (goesOn ps ss) e))
+pub allBegin-prefixes : (p s : Strings) → allBegin p s ≡ true → Prefixes p s
+unfolding allBegin Prefixes
+allBegin-prefixes [] s e = tt
+allBegin-prefixes (p ∷ ps) [] e = absurd (false≢true e)
+allBegin-prefixes (p ∷ ps) (s ∷ ss) e =
+    (begins-prefix p s (and-left (begins p s) (allBegin ps ss) e), allBegin-prefixes ps ss (and-right (begins p s) (allBegin ps ss) e))
 
-pub prefixes-goesOn : (p s : Strings) → Prefixes p s → goesOn p s ≡ true
-unfolding goesOn Prefixes
-prefixes-goesOn [] s h = refl
-prefixes-goesOn (p ∷ ps) [] h = absurd h
-prefixes-goesOn (p ∷ ps) (s ∷ ss) h = and-both (prefix-begins p s (h .0)) (prefixes-goesOn ps ss (h .1))
+pub prefixes-allBegin : (p s : Strings) → Prefixes p s → allBegin p s ≡ true
+unfolding allBegin Prefixes
+prefixes-allBegin [] s h = refl
+prefixes-allBegin (p ∷ ps) [] h = absurd h
+prefixes-allBegin (p ∷ ps) (s ∷ ss) h = and-both (prefix-begins p s (h .0)) (prefixes-allBegin ps ss (h .1))
 
 -- what is joined behind bytes leaves them a prefix
 pub prefix-append : (p s : List ℕ) → Prefix p (p ++ s)

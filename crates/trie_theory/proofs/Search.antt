@@ -7,14 +7,14 @@ use mathlib.Core.List.{List, [], _∷_, _++_, map}
 use native.Mathlib.Omega.{arith}
 use Rattle.trie_theory.specs.Forest.{Strings, Key, Forest, none, leaf, inner, join, under, keys}
 use Rattle.buffer.specs.Lists.{All, nil, cons, pick, count}
-use Rattle.trie_theory.specs.Strings.{goesOn}
+use Rattle.trie_theory.specs.Strings.{allBegin}
 use Rattle.trie_theory.specs.Dimensions.{Above, root, below}
 use Rattle.trie_theory.specs.Search.{branch, node, nodesIn, admitted, enters, nodesEntered, found}
 use Rattle.trie_theory.specs.Size.{nodes}
 use Rattle.buffer.proofs.Lists.{pick-append}
 use Rattle.buffer.proofs.Sums.{count-append}
 use Rattle.buffer.proofs.Tests.{not-true}
-use Rattle.trie_theory.proofs.Prefix.{Prefix, Prefixes, From, prefixes-goesOn, prefix-refl, prefixes-refl, prefixes-join}
+use Rattle.trie_theory.proofs.Prefix.{Prefix, Prefixes, From, prefixes-allBegin, prefix-refl, prefixes-refl, prefixes-join}
 use Rattle.trie_theory.proofs.Prefix.{prefixes-trans, prefix-append}
 use Rattle.trie_theory.proofs.Keys.{from-under, all-keys}
 
@@ -41,14 +41,14 @@ known-branch zero (k ∷ ks) ((b ∷ s) ∷ ss) = (prefix-append k (b ∷ []), p
 known-branch (suc d) (k ∷ ks) (s ∷ ss) = (prefix-refl k, known-branch d ks ss)
 
 module _ (reach : Strings → Bool) (matching : Key → Bool)
-    (sees : (k : Strings) (x : Key) → goesOn k (x .strings) ≡ true → matching x ≡ true → reach k ≡ true) where
+    (sees : (k : Strings) (x : Key) → allBegin k (x .strings) ≡ true → matching x ≡ true → reach k ≡ true) where
   none-matching : (k : Strings) {xs : List Key} → All (From k) xs → reach k ≡ false → pick matching xs ≡ []
   unfolding pick
   none-matching k nil blocked = refl
   none-matching k (cons {x = x} {xs = xs} h a) blocked = go (matching x) refl (none-matching k a blocked)
     where
       go : (w : Bool) → matching x ≡ w → pick matching xs ≡ [] → cond w (x ∷ pick matching xs) (pick matching xs) ≡ []
-      go true e r = absurd (true≢false (sym (sees k x (prefixes-goesOn k (x .strings) h) e) ∙ blocked))
+      go true e r = absurd (true≢false (sym (sees k x (prefixes-allBegin k (x .strings) h) e) ∙ blocked))
       go false e r = r
 
   -- a node that is passed over has nothing that matches
@@ -80,10 +80,10 @@ module _ (reach : Strings → Bool) (matching : Key → Bool)
       (found-all above k more)
       ∙ sym (pick-append matching (keys (join k s) children) (keys k more))
 
-module _ (reach : Strings → Bool) (down : (k l : Strings) → goesOn k l ≡ true → reach l ≡ true → reach k ≡ true) where
+module _ (reach : Strings → Bool) (down : (k l : Strings) → allBegin k l ≡ true → reach l ≡ true → reach k ≡ true) where
   -- where bytes are refused, so is all that goes on from them
   refused : (k l : Strings) → Prefixes k l → reach k ≡ false → reach l ≡ false
-  refused k l h e = not-true (reach l) (λ q. true≢false (sym (down k l (prefixes-goesOn k l h) q) ∙ e))
+  refused k l h e = not-true (reach l) (λ q. true≢false (sym (down k l (prefixes-allBegin k l h) q) ∙ e))
 
   none-admitted : (d : ℕ) (k : Strings) (f : Forest) → reach k ≡ false → count (admitted reach) (nodesIn (below d) k f) ≡ 0
   unfolding nodesIn count

@@ -8,21 +8,21 @@ use native.Mathlib.Omega.{arith}
 use lib.Dec.{ltb}
 use Rattle.trie_theory.specs.Forest.{Strings, Key, Forest, none, leaf, inner, join, under, keys}
 use Rattle.buffer.specs.Lists.{sum}
-use Rattle.trie_theory.specs.Strings.{goesOn, commons, strip, remains, first, total}
+use Rattle.trie_theory.specs.Strings.{allBegin, commons, strip, remains, first, total}
 use Rattle.trie_theory.specs.Dimensions.{Above, root, below}
-use Rattle.trie_theory.specs.SmallTrie.{alone, two, differing, split, outcome, added, grown, smallTrie}
+use Rattle.trie_theory.specs.SmallTrie.{newLeaf, two, differing, split, outcome, added, grown, smallTrie}
 use Rattle.trie_theory.specs.Size.{cost, growth}
 use Rattle.buffer.proofs.Lists.{map-append}
 use Rattle.buffer.proofs.Sums.{sum-append}
-use Rattle.trie_theory.proofs.Prefix.{goesOn-prefixes, prefixes-refl, commons-left, commons-right}
+use Rattle.trie_theory.proofs.Prefix.{allBegin-prefixes, prefixes-refl, commons-left, commons-right}
 use Rattle.trie_theory.proofs.Strings.{join-assoc, join-strip, total-strip}
 use Rattle.trie_theory.proofs.Keys.{under-known}
 use Rattle.trie_theory.proofs.SmallStep.{placed, placed-cases}
 
 module _ (h : Key → ℕ) where
-  sum-alone : (k : Strings) (x : Key) (more : Forest) → sum h (keys k (alone x more)) ≡ h (under k x) + sum h (keys k more)
-  unfolding keys alone sum
-  sum-alone k x more = ap (λ (y : Key). h y + sum h (keys k more)) (under-known k (x .strings) x (prefixes-refl (x .strings)))
+  sum-newLeaf : (k : Strings) (x : Key) (more : Forest) → sum h (keys k (newLeaf x more)) ≡ h (under k x) + sum h (keys k more)
+  unfolding keys newLeaf sum
+  sum-newLeaf k x more = ap (λ (y : Key). h y + sum h (keys k more)) (under-known k (x .strings) x (prefixes-refl (x .strings)))
 
   -- a node that has the keys c below the bytes known at it
   module _ (node : Strings → Forest → Forest) (c : Strings → ℕ)
@@ -31,9 +31,9 @@ module _ (h : Key → ℕ) where
     unfolding two keys sum
     sum-two d k s x = go (ltb (first d (x .strings)) (first d s))
       where
-        go : (b : Bool) → sum h (keys k (cond b (alone x (node s none)) (node s (alone x none)))) ≡ h (under k x) + c (join k s)
-        go true = omega (arith, sum-alone k x (node s none), own k s none)
-        go false = omega (arith, own k s (alone x none), sum-alone k x none)
+        go : (b : Bool) → sum h (keys k (cond b (newLeaf x (node s none)) (node s (newLeaf x none)))) ≡ h (under k x) + c (join k s)
+        go true = omega (arith, sum-newLeaf k x (node s none), own k s none)
+        go false = omega (arith, own k s (newLeaf x none), sum-newLeaf k x none)
 
     sum-split : (above : Above) (k s : Strings) (x : Key) (more : Forest)
         → sum h (keys k (split above node s x more)) ≡ h (under k x) + (c (join k s) + sum h (keys k more))
@@ -48,20 +48,20 @@ module _ (h : Key → ℕ) where
         omega (arith, sum-append h (keys (join k p) (two d node (strip p s) (remains p x))) (keys k more), e)
 
     sum-placed : (above : Above) (k s : Strings) (x : Key) (agreed more later : Forest)
-        → (goesOn s (x .strings) ≡ true → sum h (keys k agreed) ≡ h (under (join k s) (remains s x)) + sum h (keys k (node s more)))
+        → (allBegin s (x .strings) ≡ true → sum h (keys k agreed) ≡ h (under (join k s) (remains s x)) + sum h (keys k (node s more)))
         → sum h (keys k later) ≡ h (under k x) + sum h (keys k more)
         → sum h (keys k (placed above node s x agreed more later)) ≡ h (under k x) + sum h (keys k (node s more))
     sum-placed above k s x agreed more later a l =
         placed-cases (λ g. sum h (keys k g) ≡ h (under k x) + sum h (keys k (node s more))) above node s x agreed more later
-        (λ m g. a g ∙ ap (λ (y : Key). h y + sum h (keys k (node s more))) (under-known k s x (goesOn-prefixes s (x .strings) g)))
+        (λ m g. a g ∙ ap (λ (y : Key). h y + sum h (keys k (node s more))) (under-known k s x (allBegin-prefixes s (x .strings) g)))
         (λ m g. omega (arith, sum-split above k s x more, own k s more))
-        (λ m b. sum-alone k x (node s more))
+        (λ m b. sum-newLeaf k x (node s more))
         (λ m b. omega (arith, l, own k s later, own k s more))
 
   pub sum-added : (above : Above) (k : Strings) (f : Forest) (x : Key)
       → sum h (keys k (added above f x)) ≡ h (under k x) + sum h (keys k f)
   unfolding added keys sum
-  sum-added above k none x = sum-alone k x none
+  sum-added above k none x = sum-newLeaf k x none
   sum-added above k (leaf s ts more) x =
       let mine = map (under (join k s)) ts in
       let new = under (join k s) (remains s x) in
@@ -107,9 +107,9 @@ unfolding smallTrie
 small-last xs x = grown-last none xs x
 
 module _ (h u : ℕ) where
-  cost-alone : (x : Key) (more : Forest) → cost h u (alone x more) ≡ h + u + total (x .strings) + cost h u more
-  unfolding cost alone remains sum
-  cost-alone x more = omega (arith, total-strip (x .strings) (x .strings) (prefixes-refl (x .strings)))
+  cost-newLeaf : (x : Key) (more : Forest) → cost h u (newLeaf x more) ≡ h + u + total (x .strings) + cost h u more
+  unfolding cost newLeaf remains sum
+  cost-newLeaf x more = omega (arith, total-strip (x .strings) (x .strings) (prefixes-refl (x .strings)))
 
   module _ (node : Strings → Forest → Forest) (c : ℕ)
       (own : (s : Strings) (more : Forest) → cost h u (node s more) ≡ h + total s + c + cost h u more) where
@@ -118,9 +118,9 @@ module _ (h u : ℕ) where
     cost-two d s x = go (ltb (first d (x .strings)) (first d s))
       where
         go : (b : Bool)
-            → cost h u (cond b (alone x (node s none)) (node s (alone x none))) ≡ h + h + u + total s + c + total (x .strings)
-        go true = omega (arith, cost-alone x (node s none), own s none)
-        go false = omega (arith, cost-alone x none, own s (alone x none))
+            → cost h u (cond b (newLeaf x (node s none)) (node s (newLeaf x none))) ≡ h + h + u + total s + c + total (x .strings)
+        go true = omega (arith, cost-newLeaf x (node s none), own s none)
+        go false = omega (arith, cost-newLeaf x none, own s (newLeaf x none))
 
     -- where the outcomes that agree and that go on grow by a and l, the addition grows as its outcome says
     cost-placed : (above : Above) (s : Strings) (x : Key) (agreed more later : Forest) (a l : ℕ)
@@ -140,13 +140,13 @@ module _ (h u : ℕ) where
           total-strip p s (commons-left s (x .strings)),
           own s more,
         )))
-        (λ m b. rw (m, b) (omega (arith, cost-alone x (node s more))))
+        (λ m b. rw (m, b) (omega (arith, cost-newLeaf x (node s more))))
         (λ m b. rw (m, b) (omega (arith, el, own s later, own s more)))
 
   -- ONE ADDITION, to the byte
   pub cost-added : (above : Above) (f : Forest) (x : Key) → cost h u (added above f x) ≡ cost h u f + growth h u above f x
   unfolding added cost growth sum remains
-  cost-added above none x = omega (arith, cost-alone x none)
+  cost-added above none x = omega (arith, cost-newLeaf x none)
   cost-added above (leaf s ts more) x =
       cost-placed (λ s′ m. leaf s′ ts m) (sum (λ t. u + total (t .strings)) ts) (λ s′ m. refl)
       above s x (leaf s (ts ++ (remains s x ∷ [])) more) more (added above more x) (u + total (strip s (x .strings)))

@@ -10,12 +10,12 @@ use lib.Dec.{ltb}
 use borrow.Author.Tests.{ltb-true}
 use Rattle.trie_theory.specs.Forest.{Strings, Key, Forest, none, leaf, inner, join, under, keys, tops}
 use Rattle.buffer.specs.Lists.{All, nil, cons}
-use Rattle.trie_theory.specs.Strings.{goesOn, commons, strip, remains, first}
+use Rattle.trie_theory.specs.Strings.{allBegin, commons, strip, remains, first}
 use Rattle.trie_theory.specs.Dimensions.{Above, below, branching}
-use Rattle.trie_theory.specs.SmallTrie.{meets, ahead, alone, two, differing, split, added}
+use Rattle.trie_theory.specs.SmallTrie.{meets, precedes, newLeaf, two, differing, split, added}
 use Rattle.trie_theory.specs.Sound.{Starts, Wide, Node, Sound}
 use Rattle.buffer.proofs.Lists.{all-append, all-left, all-right, all-unmap, all-imp, all-tested}
-use Rattle.trie_theory.proofs.Prefix.{From, goesOn-prefixes, commons-left}
+use Rattle.trie_theory.proofs.Prefix.{From, allBegin-prefixes, commons-left}
 use Rattle.trie_theory.proofs.Strings.{length-strip, length-commons}
 use Rattle.trie_theory.proofs.Branching.{branching-prefix, meets-false}
 use Rattle.trie_theory.proofs.Keys.{keys-from}
@@ -41,7 +41,7 @@ tops-placed : (Q : ℕ → Type 0) (above : Above) (node : Strings → Forest �
     → (s : Strings) (x : Key) (agreed more later : Forest)
     → Starts above s → Starts above (x .strings) → Q (branching above (x .strings)) → Q (branching above s) → Each Q above more
     → Each Q above agreed → Each Q above later → Each Q above (placed above node s x agreed more later)
-unfolding tops alone split
+unfolding tops newLeaf split
 tops-placed Q above node own s x agreed more later fs fx qx qs qm qa ql =
     placed-cases (Each Q above) above node s x agreed more later
     (λ m g. qa)
@@ -51,7 +51,7 @@ tops-placed Q above node own s x agreed more later fs fx qx qs qm qa ql =
 
 pub tops-added : (Q : ℕ → Type 0) (n : ℕ) (above : Above) (f : Forest) (x : Key) → Sound n above f → Starts above (x .strings)
     → Q (branching above (x .strings)) → Each Q above f → Each Q above (added above f x)
-unfolding Sound tops added alone
+unfolding Sound tops added newLeaf
 tops-added Q n above none x h fx q a = cons q nil
 tops-added Q n above (leaf s ts more) x h fx q (cons b a) =
     tops-placed Q above (λ s′ m. leaf s′ ts m) (λ s′ m. refl) s x (leaf s (ts ++ (remains s x ∷ [])) more) more (added above more x)
@@ -66,13 +66,13 @@ width-placed : (above : Above) (node : Strings → Forest → Forest) → Fronts
     → (s : Strings) (x : Key) (agreed more later : Forest)
     → suc (length (tops more)) ≤ length (tops agreed) → length (tops more) ≤ length (tops later)
     → suc (length (tops more)) ≤ length (tops (placed above node s x agreed more later))
-unfolding tops alone split
+unfolding tops newLeaf split
 width-placed above node own s x agreed more later a l =
     placed-cases (λ g. suc (length (tops more)) ≤ length (tops g)) above node s x agreed more later
     (λ m g. a) (λ m g. omega arith) (λ m g. omega (arith, ap length (own s more))) (λ m g. omega (arith, l, ap length (own s later)))
 
 width-added : (above : Above) (f : Forest) (x : Key) → length (tops f) ≤ length (tops (added above f x))
-unfolding added tops alone
+unfolding added tops newLeaf
 width-added above none x = omega arith
 width-added above (leaf s ts more) x =
     width-placed above (λ s′ m. leaf s′ ts m) (λ s′ m. refl) s x (leaf s (ts ++ (remains s x ∷ [])) more) more (added above more x)
@@ -96,19 +96,19 @@ below-starts n d children x h w a =
     free-starts d (top children) x (y .0) (y .1) (y .2) (top-starts n (below d) children h (omega arith))
 
 -- a byte below those of all tries is none of theirs
-ahead-apart : (above : Above) (k : Strings) (f : Forest) → ahead above k f ≡ true
+precedes-apart : (above : Above) (k : Strings) (f : Forest) → precedes above k f ≡ true
     → All (λ t. branching above k ≡ branching above t → ⊥) (tops f)
-unfolding ahead
-ahead-apart above k f a =
+unfolding precedes
+precedes-apart above k f a =
     all-imp (λ t l e. let m = ltb-true (branching above k) (branching above t) l in omega arith)
     (all-tested (λ t. ltb (branching above k) (branching above t)) (tops f) a)
 
 module _ (n : ℕ) where
-  alone-sound : (above : Above) (x : Key) (more : Forest) → Wide n x → Starts above (x .strings)
+  newLeaf-sound : (above : Above) (x : Key) (more : Forest) → Wide n x → Starts above (x .strings)
       → All (λ t. branching above (x .strings) ≡ branching above t → ⊥) (tops more) → Sound n above more
-      → Sound n above (alone x more)
-  unfolding Sound alone remains
-  alone-sound above x more w f a h =
+      → Sound n above (newLeaf x more)
+  unfolding Sound newLeaf remains
+  newLeaf-sound above x more w f a h =
       (record { wide = w; starts = f; apart = a }, omega arith, cons (length-strip (x .strings) (x .strings) ∙ w) nil, h)
 
   -- a leaf or an inner node, of which only the strings and the siblings change
@@ -116,25 +116,25 @@ module _ (n : ℕ) where
       (make : (above : Above) (s : Strings) (more : Forest) → Node n above s more → Sound n above more → Sound n above (node s more)) where
     two-sound : (d : ℕ) (s : Strings) (x : Key) → length s ≡ n → Wide n x → Starts (below d) s → Starts (below d) (x .strings)
         → (first d s ≡ first d (x .strings) → ⊥) → (2 ≤ length (tops (two d node s x))) × Sound n (below d) (two d node s x)
-    unfolding two Sound tops branching alone
+    unfolding two Sound tops branching newLeaf
     two-sound d s x ls lx fs fx apart = go (ltb (first d (x .strings)) (first d s))
       where
-        go : (w : Bool) → (2 ≤ length (tops (cond w (alone x (node s none)) (node s (alone x none)))))
-            × Sound n (below d) (cond w (alone x (node s none)) (node s (alone x none)))
+        go : (w : Bool) → (2 ≤ length (tops (cond w (newLeaf x (node s none)) (node s (newLeaf x none)))))
+            × Sound n (below d) (cond w (newLeaf x (node s none)) (node s (newLeaf x none)))
         go true = (
           omega (arith, ap length (own s none)),
-          alone-sound (below d) x (node s none) lx fx (rw (own s none) (cons (λ e. apart (sym e)) nil))
+          newLeaf-sound (below d) x (node s none) lx fx (rw (own s none) (cons (λ e. apart (sym e)) nil))
               (make (below d) s none (record { wide = ls; starts = fs; apart = nil }) tt),
         )
         go false = (
-          omega (arith, ap length (own s (alone x none))),
-          make (below d) s (alone x none) (record { wide = ls; starts = fs; apart = cons apart nil })
-              (alone-sound (below d) x none lx fx nil tt),
+          omega (arith, ap length (own s (newLeaf x none))),
+          make (below d) s (newLeaf x none) (record { wide = ls; starts = fs; apart = cons apart nil })
+              (newLeaf-sound (below d) x none lx fx nil tt),
         )
 
     placed-sound : (above : Above) (s : Strings) (x : Key) (agreed more : Forest)
         → Node n above s more → Sound n above more → Wide n x → Starts above (x .strings) → (y : Key) × Free x y × From s y
-        → (goesOn s (x .strings) ≡ true → Sound n above agreed) → Sound n above (added above more x)
+        → (allBegin s (x .strings) ≡ true → Sound n above agreed) → Sound n above (added above more x)
         → Sound n above (placed above node s x agreed more (added above more x))
     unfolding split Sound remains
     placed-sound above s x agreed more h hm w fx (y, free, from) ha hl =
@@ -158,7 +158,7 @@ module _ (n : ℕ) where
           r .1,
           hm,
         ))
-        (λ m a. alone-sound above x (node s more) w fx (ahead-apart above k (node s more) a) (make above s more h hm))
+        (λ m a. newLeaf-sound above x (node s more) w fx (precedes-apart above k (node s more) a) (make above s more h hm))
         (λ m a. make above s (added above more x) (record {
           wide = h .wide;
           starts = h .starts;
@@ -170,7 +170,7 @@ module _ (n : ℕ) where
       → All (Free x) (keys [] f)
       → Sound n above (added above f x)
   unfolding added Sound keys join tops remains
-  sound-added above none x h w fx free = alone-sound above x none w fx nil tt
+  sound-added above none x h w fx free = newLeaf-sound above x none w fx nil tt
   sound-added above (leaf s ts more) x h w fx free =
       placed-sound (λ s′ m. leaf s′ ts m) (λ s′ m. refl) (λ above′ s′ m c r. (c, h .1, h .2, r))
       above s x (leaf s (ts ++ (remains s x ∷ [])) more) more (h .0) (h .3) w fx (some-key n above [] (leaf s ts more) h (omega arith) free)
@@ -185,7 +185,7 @@ module _ (n : ℕ) where
       placed-sound (λ s′ m. inner d s′ children m) (λ s′ m. refl) (λ above′ s′ m c r. (c, h .1, h .2, r))
       above s x (inner d s (added (below d) children (remains s x)) more) more (h .0) (h .3) w fx
       (some-key n above [] (inner d s children more) h (omega arith) free)
-      (λ g. let f = below-free s children x (goesOn-prefixes s (x .strings) g) (all-left (keys s children) (keys [] more) free) in (
+      (λ g. let f = below-free s children x (allBegin-prefixes s (x .strings) g) (all-left (keys s children) (keys [] more) free) in (
         h .0,
         omega (arith, h .1, width-added (below d) children (remains s x)),
         sound-added (below d) children (remains s x) (h .2) (length-strip s (x .strings) ∙ w)

@@ -28,11 +28,11 @@ top-starts n above (leaf s ts more) h w = h .0 .starts
 top-starts n above (inner d s children more) h w = h .0 .starts
 
 -- a root has no siblings: a sound trie is one tree, or none
-pub root-alone : (n : ℕ) (s : Strings) (more : Forest) → Node n root s more → more ≡ none
+pub root-single : (n : ℕ) (s : Strings) (more : Forest) → Node n root s more → more ≡ none
 unfolding tops branching
-root-alone n s none h = refl
-root-alone n s (leaf t ts more) h = absurd (all-head (h .apart) refl)
-root-alone n s (inner d t children more) h = absurd (all-head (h .apart) refl)
+root-single n s none h = refl
+root-single n s (leaf t ts more) h = absurd (all-head (h .apart) refl)
+root-single n s (inner d t children more) h = absurd (all-head (h .apart) refl)
 
 -- A SOUND TRIE HAS A KEY, which goes on from the strings of its root
 pub some-key : {P : Key → Type 0} (n : ℕ) (above : Above) (k : Strings) (f : Forest)

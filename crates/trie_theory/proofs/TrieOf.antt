@@ -16,10 +16,10 @@ use Rattle.trie_theory.specs.Dimensions.{root}
 use Rattle.trie_theory.specs.Level.{levelOf}
 use Rattle.trie_theory.specs.SmallTrie.{smallTrie}
 use Rattle.trie_theory.specs.Lookup.{sameKey, among}
-use Rattle.trie_theory.specs.Sound.{Wide, Sound, Ascending, Bare}
+use Rattle.trie_theory.specs.Sound.{Wide, Sound, Ascending, EmptySuffixes}
 use Rattle.trie_theory.specs.Encode.{encode}
 use Rattle.trie_theory.specs.Size.{height}
-use Rattle.trie_theory.specs.Entries.{complete, Stops, dims, keyLimit, Entry}
+use Rattle.trie_theory.specs.Entries.{complete, Stops, dims, keyLimit, OfEntry}
 use Rattle.trie_theory.specs.TrieOf.{TrieOf}
 use Rattle.buffer.proofs.Lists.{all-imp}
 use Rattle.buffer.proofs.Sums.{count-sum, equal-length, equal-picked, equal-all, equal-any}
@@ -32,7 +32,7 @@ use Rattle.trie_theory.proofs.LevelKept.{level-sum}
 use Rattle.trie_theory.proofs.LevelSound.{level-well}
 use Rattle.trie_theory.proofs.Complete.{dims-stop, entry-total, entry-wide}
 use Rattle.trie_theory.proofs.SmallKept.{small-sum}
-use Rattle.trie_theory.proofs.SmallBare.{small-small}
+use Rattle.trie_theory.proofs.SmallSuffixes.{small-small}
 
 -- equal sums of the test are equal counts
 counted : (p : Key → Bool) (xs ys : List Key) → sum (λ x. cond (p x) 1 0) xs ≡ sum (λ x. cond (p x) 1 0) ys → count p xs ≡ count p ys
@@ -79,17 +79,17 @@ level-trie n m τ xs wide short named =
 -- A SMALL TRIE, whose siblings ascend and which has one path and value per leaf
 pub small-trie : (cs : List (List ℕ → Bool)) → All Stops cs → (m : ℕ) (xs : List Key)
     → All (λ x. complete cs (x .strings) ≡ true) xs → All (λ x. total (x .strings) ≤ m) xs → All Twenty xs
-    → TrieOf (length cs) m xs (smallTrie xs) × Ascending root (smallTrie xs) × Bare (smallTrie xs)
+    → TrieOf (length cs) m xs (smallTrie xs) × Ascending root (smallTrie xs) × EmptySuffixes (smallTrie xs)
 small-trie cs stop m xs whole short named =
     let s = small-small cs stop whole in
-    (sound-trie (length cs) m xs (smallTrie xs) (s .0 .sound) (λ h. small-sum h xs) short named, s .1, s .0 .bare)
+    (sound-trie (length cs) m xs (smallTrie xs) (s .0 .sound) (λ h. small-sum h xs) short named, s .1, s .0 .empty-suffixes)
 
 -- OF ENTRIES
-module _ (xs : List Key) (entries : All Entry xs) where
+module _ (xs : List Key) (entries : All OfEntry xs) where
   pub level-entries : (τ : ℕ) → TrieOf 2 keyLimit xs (levelOf 2 τ xs) × Ascending root (levelOf 2 τ xs)
   level-entries τ = level-trie 2 keyLimit τ xs (all-imp entry-wide entries) (all-imp entry-total entries) (all-imp (λ x e. e .named) entries)
 
-  pub small-entries : TrieOf 2 keyLimit xs (smallTrie xs) × Ascending root (smallTrie xs) × Bare (smallTrie xs)
+  pub small-entries : TrieOf 2 keyLimit xs (smallTrie xs) × Ascending root (smallTrie xs) × EmptySuffixes (smallTrie xs)
   unfolding dims
   small-entries =
       small-trie dims dims-stop keyLimit xs (all-imp (λ x e. e .whole) entries) (all-imp entry-total entries)

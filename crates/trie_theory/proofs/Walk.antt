@@ -7,23 +7,23 @@ use native.Mathlib.Omega.{arith}
 use lib.ListN.{length}
 use Rattle.trie_theory.specs.Forest.{Strings, Key, Forest, none, leaf, inner, join, keys}
 use Rattle.buffer.specs.Lists.{All, nil, cons}
-use Rattle.trie_theory.specs.Strings.{goesOn}
+use Rattle.trie_theory.specs.Strings.{allBegin}
 use Rattle.trie_theory.specs.Walk.{Step, stepAt, walk}
 use Rattle.trie_theory.specs.Size.{height}
 use Rattle.buffer.proofs.Lists.{all-head, all-tail}
-use Rattle.trie_theory.proofs.Prefix.{Prefixes, prefix-length, goesOn-prefixes}
+use Rattle.trie_theory.proofs.Prefix.{Prefixes, prefix-length, allBegin-prefixes}
 
 -- NO MORE NODES THAN THE TRIE IS HIGH
 pub walk-height : (k : Strings) (f : Forest) (x : Key) → length (walk k f x) ≤ height f
 unfolding walk height
 walk-height k none x = omega arith
-walk-height k (leaf s ts more) x = go (goesOn (join k s) (x .strings)) (walk-height k more x)
+walk-height k (leaf s ts more) x = go (allBegin (join k s) (x .strings)) (walk-height k more x)
   where
     go : (w : Bool) → length (walk k more x) ≤ height more
         → length (cond w (stepAt (join k s) (length ts) 0 ∷ []) (walk k more x)) ≤ max 1 (height more)
     go true h = omega arith
     go false h = omega arith
-walk-height k (inner d s children more) x = go (goesOn (join k s) (x .strings)) (walk-height (join k s) children x) (walk-height k more x)
+walk-height k (inner d s children more) x = go (allBegin (join k s) (x .strings)) (walk-height (join k s) children x) (walk-height k more x)
   where
     go : (w : Bool) → length (walk (join k s) children x) ≤ height children → length (walk k more x) ≤ height more
         → length (cond w (stepAt (join k s) (length (keys (join k s) children)) (suc d) ∷ walk (join k s) children x) (walk k more x))
@@ -45,23 +45,23 @@ module _ (B : ℕ) (x : Key) (short : All (λ l. length l ≤ B) (x .strings)) w
       let m = all-head a in
       cons {x = suc (length p)} (omega arith) (positions-most ps ss (h .1) (all-tail a))
 
-  step-most : (k : Strings) (amount kind : ℕ) → goesOn k (x .strings) ≡ true → AtMost (suc B) (stepAt k amount kind)
+  step-most : (k : Strings) (amount kind : ℕ) → allBegin k (x .strings) ≡ true → AtMost (suc B) (stepAt k amount kind)
   unfolding stepAt
-  step-most k amount kind e = positions-most k (x .strings) (goesOn-prefixes k (x .strings) e) short
+  step-most k amount kind e = positions-most k (x .strings) (allBegin-prefixes k (x .strings) e) short
 
   -- NO POSITION IS MORE THAN ONE PAST AN END
   pub walk-most : (k : Strings) (f : Forest) → All (AtMost (suc B)) (walk k f x)
   unfolding walk
   walk-most k none = nil
-  walk-most k (leaf s ts more) = go (goesOn (join k s) (x .strings)) refl (walk-most k more)
+  walk-most k (leaf s ts more) = go (allBegin (join k s) (x .strings)) refl (walk-most k more)
     where
-      go : (w : Bool) → goesOn (join k s) (x .strings) ≡ w → All (AtMost (suc B)) (walk k more x)
+      go : (w : Bool) → allBegin (join k s) (x .strings) ≡ w → All (AtMost (suc B)) (walk k more x)
           → All (AtMost (suc B)) (cond w (stepAt (join k s) (length ts) 0 ∷ []) (walk k more x))
       go true e r = cons (step-most (join k s) (length ts) 0 e) nil
       go false e r = r
-  walk-most k (inner d s children more) = go (goesOn (join k s) (x .strings)) refl (walk-most (join k s) children) (walk-most k more)
+  walk-most k (inner d s children more) = go (allBegin (join k s) (x .strings)) refl (walk-most (join k s) children) (walk-most k more)
     where
-      go : (w : Bool) → goesOn (join k s) (x .strings) ≡ w → All (AtMost (suc B)) (walk (join k s) children x)
+      go : (w : Bool) → allBegin (join k s) (x .strings) ≡ w → All (AtMost (suc B)) (walk (join k s) children x)
           → All (AtMost (suc B)) (walk k more x)
           → All (AtMost (suc B))
           (cond w (stepAt (join k s) (length (keys (join k s) children)) (suc d) ∷ walk (join k s) children x) (walk k more x))

@@ -2,12 +2,12 @@
 use Prim.Native.Nat.{ℕ}
 use Rattle.trie_theory.specs.Forest.{join, under, keys, tops}
 use Rattle.buffer.specs.Lists.{any, pick, flat, same}
-use Rattle.trie_theory.specs.Strings.{begins, goesOn, common, commons, strip, remains, first}
+use Rattle.trie_theory.specs.Strings.{begins, allBegin, common, commons, strip, remains, first}
 use Rattle.trie_theory.specs.Dimensions.{next, wanted, seek, turn, branching}
 use Rattle.trie_theory.specs.Position.{narrow, shared, position, byte, differ}
 use Rattle.trie_theory.specs.Parts.{keep, filled, partsFrom, parts}
 use Rattle.trie_theory.specs.Level.{choice, node, each, grow, trie, levelOf}
-use Rattle.trie_theory.specs.SmallTrie.{meets, ahead, alone, two, chosen, differing, split, outcome, added, grown, smallTrie}
+use Rattle.trie_theory.specs.SmallTrie.{meets, precedes, newLeaf, two, chosen, differing, split, outcome, added, grown, smallTrie}
 use Rattle.trie_theory.specs.Lookup.{sameKey, among, member}
 use Rattle.trie_theory.specs.Search.{branch, enters, nodesEntered, found}
 use Rattle.trie_theory.specs.Encode.{suffixBytes, nodeBytes, encode}
@@ -15,7 +15,7 @@ use Rattle.buffer.specs.Numbers.{bytesOf}
 use Rattle.trie_theory.specs.Walk.{stepAt, walk}
 
 unfoldable pub of-strings : ℕ
-unfolding join under keys begins goesOn common commons strip remains first any pick same next wanted seek turn
+unfolding join under keys begins allBegin common commons strip remains first any pick same next wanted seek turn
 of-strings = 0
 
 unfoldable pub of-a-level : ℕ
@@ -23,7 +23,7 @@ unfolding of-strings narrow shared position byte differ keep filled partsFrom pa
 of-a-level = 0
 
 unfoldable pub of-a-small-trie : ℕ
-unfolding of-strings tops branching meets ahead alone two chosen differing split outcome added grown smallTrie
+unfolding of-strings tops branching meets precedes newLeaf two chosen differing split outcome added grown smallTrie
 of-a-small-trie = 0
 
 unfoldable pub of-a-search : ℕ

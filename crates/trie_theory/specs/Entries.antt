@@ -10,7 +10,7 @@ use Rattle.buffer.specs.Sizes.{valueSize, referenceSize, pathLimit}
 use Rattle.buffer.specs.Lists.{All}
 use Rattle.trie_theory.specs.Strings.{at}
 use Rattle.trie_theory.specs.Dimensions.{root}
-use Rattle.trie_theory.specs.Sound.{Sound, Bare}
+use Rattle.trie_theory.specs.Sound.{Sound, EmptySuffixes}
 
 -- each string passes the test of its dimension, and there are as many
 unfoldable pub complete : List (List ℕ → Bool) → Strings → Bool
@@ -43,7 +43,7 @@ abbrev pub keyLimit : ℕ
 keyLimit = valueSize + (pathLimit + 1)
 
 -- the key of an entry: a value, a path of at most 200 bytes with its end byte, and a reference of 20
-pub record Entry (x : Key) : Type 0 where
+pub record OfEntry (x : Key) : Type 0 where
   pub whole : complete dims (x .strings) ≡ true
   pub short : length (at 1 (x .strings)) ≤ pathLimit + 1
   pub bytes : All (All (λ b. b < 256)) (x .strings)
@@ -52,5 +52,5 @@ pub record Entry (x : Key) : Type 0 where
 -- a small trie, our own or another's: sound, and from the root to each leaf the strings join to one whole key
 pub record Small (cs : List (List ℕ → Bool)) (t : Forest) : Type 0 where
   pub sound : Sound (length cs) root t
-  pub bare : Bare t
+  pub empty-suffixes : EmptySuffixes t
   pub whole : All (λ x. complete cs (x .strings) ≡ true) (keys [] t)

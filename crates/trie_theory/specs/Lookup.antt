@@ -4,7 +4,7 @@ use mathlib.Core.List.{List}
 use lib.Dec.{eqb}
 use Rattle.trie_theory.specs.Forest.{Key, Forest, none, leaf, inner}
 use Rattle.buffer.specs.Lists.{any, same}
-use Rattle.trie_theory.specs.Strings.{goesOn, remains}
+use Rattle.trie_theory.specs.Strings.{allBegin, remains}
 use Rattle.trie_theory.specs.Dimensions.{Above, below}
 use Rattle.trie_theory.specs.SmallTrie.{meets}
 
@@ -21,6 +21,6 @@ among x ys = any (sameKey x) ys
 unfoldable pub member : Above → Forest → Key → Bool
 member above none x = false
 member above (leaf s ts more) x =
-    cond (meets above s (x .strings)) (goesOn s (x .strings) && among (remains s x) ts) (member above more x)
+    cond (meets above s (x .strings)) (allBegin s (x .strings) && among (remains s x) ts) (member above more x)
 member above (inner d s children more) x =
-    cond (meets above s (x .strings)) (goesOn s (x .strings) && member (below d) children (remains s x)) (member above more x)
+    cond (meets above s (x .strings)) (allBegin s (x .strings) && member (below d) children (remains s x)) (member above more x)

@@ -20,7 +20,7 @@ use lib.ListN.{length}
 use lib.Dec.{eqb, ltb}
 use Rattle.buffer.specs.Lists.{all}
 use Rattle.trie_theory.specs.Forest.{Strings, Key, Forest, none, leaf, inner, tops}
-use Rattle.trie_theory.specs.Strings.{goesOn, commons, strip, remains, at, first}
+use Rattle.trie_theory.specs.Strings.{allBegin, commons, strip, remains, at, first}
 use Rattle.trie_theory.specs.Dimensions.{Above, root, below, turn, branching}
 
 -- a key with the strings k belongs to a node with the strings s: it has the node's branching byte (at the root always)
@@ -28,16 +28,16 @@ unfoldable pub meets : Above → Strings → Strings → Bool
 meets above s k = eqb (branching above s) (branching above k)
 
 -- the branching byte of s is below those of all tries side by side
-unfoldable pub ahead : Above → Strings → Forest → Bool
-ahead above s f = all (λ t. ltb (branching above s) (branching above t)) (tops f)
+unfoldable pub precedes : Above → Strings → Forest → Bool
+precedes above s f = all (λ t. ltb (branching above s) (branching above t)) (tops f)
 
 -- a leaf with all bytes of the key: nothing remains for its suffix but the reference
-unfoldable pub alone : Key → Forest → Forest
-alone x more = leaf (x .strings) (remains (x .strings) x ∷ []) more
+unfoldable pub newLeaf : Key → Forest → Forest
+newLeaf x more = leaf (x .strings) (remains (x .strings) x ∷ []) more
 
 -- the two children of a new parent that branches in d, ascending: the old node, with s left, and a new leaf for x
 unfoldable pub two : ℕ → (Strings → Forest → Forest) → Strings → Key → Forest
-two d node s x = cond (ltb (first d (x .strings)) (first d s)) (alone x (node s none)) (node s (alone x none))
+two d node s x = cond (ltb (first d (x .strings)) (first d s)) (newLeaf x (node s none)) (node s (newLeaf x none))
 
 -- what was sought; there is always one where it is asked for
 unfoldable pub chosen : Option ℕ → ℕ
@@ -60,23 +60,23 @@ split above node s x more =
 -- and agrees with all its strings, or differs; or its byte is below those of all tries of f; or none of these
 unfoldable pub outcome : {A : Type 0} → Above → Strings → Forest → Strings → A → A → A → A → A
 outcome above s f k agrees differs before later =
-    cond (meets above s k) (cond (goesOn s k) agrees differs) (cond (ahead above k f) before later)
+    cond (meets above s k) (cond (allBegin s k) agrees differs) (cond (precedes above k f) before later)
 
 -- Tries with the key x added. Where all agrees a leaf takes the reference, last, and an inner node passes on what remains
 -- of the key; a node that differs is split; where no child has the byte, a leaf is added
 unfoldable pub added : Above → Forest → Key → Forest
-added above none x = alone x none
+added above none x = newLeaf x none
 added above (leaf s ts more) x =
     outcome above s (leaf s ts more) (x .strings)
     (leaf s (ts ++ (remains s x ∷ [])) more)
     (split above (λ s′ m. leaf s′ ts m) s x more)
-    (alone x (leaf s ts more))
+    (newLeaf x (leaf s ts more))
     (leaf s ts (added above more x))
 added above (inner d s children more) x =
     outcome above s (inner d s children more) (x .strings)
     (inner d s (added (below d) children (remains s x)) more)
     (split above (λ s′ m. inner d s′ children m) s x more)
-    (alone x (inner d s children more))
+    (newLeaf x (inner d s children more))
     (inner d s children (added above more x))
 
 -- keys added in their sequence

@@ -9,7 +9,7 @@ use Rattle.trie_theory.specs.Forest.{Strings, Key, Forest, none, leaf, i
 use Rattle.buffer.specs.Lists.{All}
 use Rattle.trie_theory.specs.Strings.{at, total}
 use Rattle.trie_theory.specs.Dimensions.{Above, root, below, branching}
-use Rattle.trie_theory.specs.SmallTrie.{ahead}
+use Rattle.trie_theory.specs.SmallTrie.{precedes}
 
 -- below a node that branches in d, strings have a byte there
 unfoldable pub Starts : Above → Strings → Type 0
@@ -36,11 +36,11 @@ Sound n above (inner d s children more) =
 -- siblings stand ascending by their branching bytes
 unfoldable pub Ascending : Above → Forest → Type 0
 Ascending above none = Unit {0}
-Ascending above (leaf s ts more) = (ahead above s more ≡ true) × Ascending above more
-Ascending above (inner d s children more) = (ahead above s more ≡ true) × Ascending (below d) children × Ascending above more
+Ascending above (leaf s ts more) = (precedes above s more ≡ true) × Ascending above more
+Ascending above (inner d s children more) = (precedes above s more ≡ true) × Ascending (below d) children × Ascending above more
 
 -- a suffix has no byte: one path and value for each leaf, with all their references
-unfoldable pub Bare : Forest → Type 0
-Bare none = Unit {0}
-Bare (leaf s ts more) = All (λ t. total (t .strings) ≡ 0) ts × Bare more
-Bare (inner d s children more) = Bare children × Bare more
+unfoldable pub EmptySuffixes : Forest → Type 0
+EmptySuffixes none = Unit {0}
+EmptySuffixes (leaf s ts more) = All (λ t. total (t .strings) ≡ 0) ts × EmptySuffixes more
+EmptySuffixes (inner d s children more) = EmptySuffixes children × EmptySuffixes more

@@ -13,10 +13,10 @@ begins (a ∷ p) [] = false
 begins (a ∷ p) (b ∷ s) = eqb a b && begins p s
 
 -- the strings s begin, in each dimension, with those of p
-unfoldable pub goesOn : Strings → Strings → Bool
-goesOn [] ss = true
-goesOn (p ∷ ps) [] = false
-goesOn (p ∷ ps) (s ∷ ss) = begins p s && goesOn ps ss
+unfoldable pub allBegin : Strings → Strings → Bool
+allBegin [] ss = true
+allBegin (p ∷ ps) [] = false
+allBegin (p ∷ ps) (s ∷ ss) = begins p s && allBegin ps ss
 
 -- the bytes of s before its first difference from t, or all of them where none differs
 unfoldable pub common : List ℕ → List ℕ → List ℕ

@@ -7,7 +7,7 @@ use lib.ListN.{length}
 use Rattle.trie_theory.specs.Forest.{Strings, Key, Forest, keys, tops}
 use Rattle.buffer.specs.Sizes.{referenceSize}
 use Rattle.buffer.specs.Lists.{pick, count}
-use Rattle.trie_theory.specs.Strings.{goesOn}
+use Rattle.trie_theory.specs.Strings.{allBegin}
 use Rattle.trie_theory.specs.Dimensions.{root}
 use Rattle.trie_theory.specs.Lookup.{among, member}
 use Rattle.trie_theory.specs.Search.{found}
@@ -25,7 +25,7 @@ pub record TrieOf (n m : ℕ) (xs : List Key) (t : Forest) : Type 0 where
   pub lookup : (x : Key) → member root t x ≡ among x xs
   -- where `reach` holds of whatever a key that matches goes on from, a search finds the keys that match, each as often
   pub search : (reach : Strings → Bool) (matching : Key → Bool) →
-      ((k : Strings) (x : Key) → goesOn k (x .strings) ≡ true → matching x ≡ true → reach k ≡ true) →
+      ((k : Strings) (x : Key) → allBegin k (x .strings) ≡ true → matching x ≡ true → reach k ≡ true) →
       (p : Key → Bool) → count p (found reach matching root [] t) ≡ count p (pick matching xs)
   -- of N keys: at most 2 N - 1 nodes, at most m + 1 one below the other, and so many bytes
   pub few : nodes t + length (tops t) ≤ 2 * length xs

@@ -6,7 +6,7 @@ use mathlib.Core.Option.{Option, some}
 use mathlib.Core.List.{List, [], _∷_, map}
 use lib.ListN.{length}
 use Rattle.trie_theory.specs.Forest.{Strings, Key, Forest, none, leaf, inner, join, keys}
-use Rattle.trie_theory.specs.Strings.{goesOn}
+use Rattle.trie_theory.specs.Strings.{allBegin}
 use Rattle.trie_theory.specs.Dimensions.{Above, below}
 use Rattle.trie_theory.specs.Position.{shared, byte}
 use Rattle.trie_theory.specs.Parts.{keep}
@@ -27,9 +27,9 @@ stepAt k amount kind = record { amount = amount; kind = kind; positions = map (�
 unfoldable pub walk : Strings → Forest → Key → List Step
 walk k none x = []
 walk k (leaf s ts more) x =
-    cond (goesOn (join k s) (x .strings)) (stepAt (join k s) (length ts) 0 ∷ []) (walk k more x)
+    cond (allBegin (join k s) (x .strings)) (stepAt (join k s) (length ts) 0 ∷ []) (walk k more x)
 walk k (inner d s children more) x =
-    cond (goesOn (join k s) (x .strings))
+    cond (allBegin (join k s) (x .strings))
     (stepAt (join k s) (length (keys (join k s) children)) (suc d) ∷ walk (join k s) children x)
     (walk k more x)
 

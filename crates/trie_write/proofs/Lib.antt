@@ -1,2 +1,2 @@
-pub mod Alone
+pub mod NewLeaf
 pub mod Differing

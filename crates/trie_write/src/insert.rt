@@ -12,7 +12,7 @@ ghost use lib.ListN.{length};
 ghost use Rattle.buffer.specs.Sizes.{referenceSize};
 ghost use Rattle.buffer.specs.Splice.{splice, region};
 ghost use Rattle.trie_theory.specs.Forest.{none};
-ghost use Rattle.trie_theory.specs.SmallTrie.{alone};
+ghost use Rattle.trie_theory.specs.SmallTrie.{newLeaf};
 ghost use Rattle.trie_theory.specs.Encode.{encode, suffixBytes};
 ghost use Rattle.trie_read.specs.Sizes.{suffixSize, leafSize};
 ghost use Rattle.trie_read.specs.Shape.{keyOf};
@@ -28,7 +28,7 @@ pub fn insert_leaf(
 ) -> usize
     requires { ⌜ (at ≤ used) × (used + leafSize + length (now value) + length (now path) ≤ length (now s)) × (length (now value) < 256) × (length (now path) < 256) × (length (now reference) ≡ referenceSize) ⌝ }
     ensures { λ r. ⌜ r ≡ leafSize + length (now (value .entry)) + length (now (path .entry)) ⌝ }
-    ensures { λ _. ⌜ now (s .exit) ≡ splice (now (s .entry)) at (encode (alone (keyOf (now (value .entry)) (now (path .entry)) (now (reference .entry))) none) ++ region (now (s .entry)) at (used - at)) ⌝ }
+    ensures { λ _. ⌜ now (s .exit) ≡ splice (now (s .entry)) at (encode (newLeaf (keyOf (now (value .entry)) (now (path .entry)) (now (reference .entry))) none) ++ region (now (s .entry)) at (used - at)) ⌝ }
 {
     let n = LEAF_SIZE + value.len() + path.len();
     move_within(s, at, at + n, used - at);

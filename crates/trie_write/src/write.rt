@@ -10,7 +10,7 @@ ghost use lib.ListN.{length};
 ghost use Rattle.buffer.specs.Sizes.{referenceSize};
 ghost use Rattle.buffer.specs.Splice.{splice};
 ghost use Rattle.trie_theory.specs.Forest.{none};
-ghost use Rattle.trie_theory.specs.SmallTrie.{alone};
+ghost use Rattle.trie_theory.specs.SmallTrie.{newLeaf};
 ghost use Rattle.trie_theory.specs.Encode.{encode, suffixBytes};
 ghost use Rattle.trie_read.specs.Sizes.{headSize, leafSize};
 ghost use Rattle.trie_read.specs.Shape.{keyOf};
@@ -49,7 +49,7 @@ pub fn put_suffix(s: &mut [u8], at: usize, value: &[u8], path: &[u8], reference:
 // Writes a leaf with one suffix, all of whose bytes the leaf has.
 pub fn put_leaf(s: &mut [u8], at: usize, value: &[u8], path: &[u8], reference: &[u8])
     requires { ⌜ (at + leafSize + length (now value) + length (now path) ≤ length (now s)) × (length (now value) < 256) × (length (now path) < 256) × (length (now reference) ≡ referenceSize) ⌝ }
-    ensures { λ _. ⌜ now (s .exit) ≡ splice (now (s .entry)) at (encode (alone (keyOf (now (value .entry)) (now (path .entry)) (now (reference .entry))) none)) ⌝ }
+    ensures { λ _. ⌜ now (s .exit) ≡ splice (now (s .entry)) at (encode (newLeaf (keyOf (now (value .entry)) (now (path .entry)) (now (reference .entry))) none)) ⌝ }
 {
     let body = at + HEAD_SIZE + value.len() + path.len();
     put_front(s, at, 0, value, path, LEAF_BODY);

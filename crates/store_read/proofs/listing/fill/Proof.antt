@@ -1,7 +1,7 @@
 -- The records written are sorted. Assumes nothing.
 use borrow.Author.Needs.{needs}
 use Rattle.store.proofs.Listing.{fills}
-use Rattle.store_read.proofs.Sorting.{walked}
+use Rattle.store_read.proofs.Reading.{walked}
 use Rattle.store_read.proofs.listing.fill.Statement.{statement}
 use Rattle.store_read.proofs.listing.fill.Tie as tie
 

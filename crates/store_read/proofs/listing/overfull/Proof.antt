@@ -2,7 +2,7 @@
 use borrow.Author.Needs.{needs}
 use native.Mathlib.Omega.{arith}
 use Rattle.store.proofs.Listing.{held-room, found-room, found-over}
-use Rattle.store_read.proofs.Sorting.{walked}
+use Rattle.store_read.proofs.Reading.{walked}
 use Rattle.store_read.proofs.listing.overfull.Statement.{statement}
 use Rattle.store_read.proofs.listing.overfull.Tie as tie
 

@@ -8,7 +8,7 @@ use Rattle.trie_read.specs.Places.{Fits}
 use Rattle.trie_read.specs.declared.place.Place.the-variants as Place
 use Rattle.trie_read.proofs.Stretch.{length-part}
 use Rattle.trie_read.proofs.Walking.{on-lengths}
-use Rattle.trie_write.proofs.Alone.{length-alone}
+use Rattle.trie_write.proofs.NewLeaf.{length-newLeaf}
 use Rattle.trie_add.proofs.First.{height-some}
 use Rattle.trie_add.proofs.Addition.{inner-grown, visit-agrees, visit-differs, added-node, added-gap}
 use Prim.Native.Nat.{ℕ, _+_, _-_, _*_, _≤_, _<_}
@@ -127,7 +127,7 @@ add-returns-2 t c =
     let a = k .before .before .before .before .before .before .before .before .before .args in
     let pre = k .before .before .before .before .before .before .before .before .before .pre .1 in
     let put = c .before .before .insert-leaf .ensures in
-    let n = length-alone (a .value .now) (a .path .now) (a .reference .now) (pre .1 .2) in
+    let n = length-newLeaf (a .value .now) (a .path .now) (a .reference .now) (pre .1 .2) in
     record {
       little = omega (arith, put .0);
       are = λ g w asc h e.

@@ -3,7 +3,7 @@ use borrow.Author.Needs.{needs}
 use native.Mathlib.Omega.{arith}
 use mathlib.Core.Path.{_≡_, sym, _∙_}
 use Rattle.trie_read.specs.Shape.{keyOf}
-use Rattle.trie_write.proofs.Alone.{length-suffixBytes}
+use Rattle.trie_write.proofs.NewLeaf.{length-suffixBytes}
 use Rattle.trie_add.proofs.Adding.{leaf-grown}
 use Rattle.trie_add.proofs.add.add_suffix.Statement.{statement}
 use Rattle.trie_add.proofs.add.add_suffix.Tie as tie

@@ -9,7 +9,7 @@ use mathlib.Core.List.{[], _∷_}
 use lib.ListN.{length}
 use Rattle.trie_theory.specs.Forest.{Forest}
 use Rattle.trie_theory.specs.Encode.{Regular, encode}
-use Rattle.trie_theory.specs.Strings.{goesOn}
+use Rattle.trie_theory.specs.Strings.{allBegin}
 use Rattle.trie_read.specs.Shape.{keyOf, part}
 use Rattle.trie_read.specs.Heads.{Inside}
 use Rattle.trie_read.specs.declared.head.Head.the-variants.{Node}

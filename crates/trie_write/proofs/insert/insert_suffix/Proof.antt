@@ -6,7 +6,7 @@ use mathlib.Core.Path.{_≡_, refl, _∙_}
 use lib.ListN.{length}
 use Rattle.buffer.specs.Splice.{region}
 use Rattle.buffer.proofs.Splice.{splice-front, length-region}
-use Rattle.trie_write.proofs.Alone.{length-suffixBytes}
+use Rattle.trie_write.proofs.NewLeaf.{length-suffixBytes}
 use Rattle.trie_write.proofs.insert.insert_suffix.Statement.{statement}
 use Rattle.trie_write.proofs.insert.insert_suffix.Tie as tie
 

@@ -12,7 +12,7 @@ use Rattle.trie_theory.specs.Encode.{encode, suffixBytes}
 use Rattle.trie_read.specs.Shape.{keyOf}
 use Rattle.trie_read.specs.Heads.{front}
 use Rattle.trie_read.proofs.Node.{length-front}
-use Rattle.trie_write.proofs.Alone.{alone-bytes}
+use Rattle.trie_write.proofs.NewLeaf.{newLeaf-bytes}
 use Rattle.trie_write.proofs.write.put_leaf.Statement.{statement}
 use Rattle.trie_write.proofs.write.put_leaf.Tie as tie
 
@@ -29,7 +29,7 @@ returns c =
     let last = suffixBytes (keyOf [] [] r) in
     c .before .before .put-suffix .ensures
     ∙ splice-then _ s (a .at) first _ last (c .before .before .before .before .before .before .before .before .put-front .ensures) (omega arith) (omega arith)
-    ∙ ap (splice s (a .at)) (ap (first ++_) (sym (append-nil last)) ∙ sym (alone-bytes v p r none (omega arith)))
+    ∙ ap (splice s (a .at)) (ap (first ++_) (sym (append-nil last)) ∙ sym (newLeaf-bytes v p r none (omega arith)))
 
 pub put-leaf-spec : {M : Type 1} → statement M
 put-leaf-spec =

@@ -9,14 +9,14 @@ use lib.ListN.{length}
 use lib.Dec.{ltb}
 use Rattle.trie_theory.specs.Forest.{Strings, Key, Forest, none, leaf, inner, join, under, keys}
 use Rattle.buffer.specs.Lists.{All, nil, cons, sum}
-use Rattle.trie_theory.specs.Strings.{goesOn, commons, strip, remains, at, first, total}
+use Rattle.trie_theory.specs.Strings.{allBegin, commons, strip, remains, at, first, total}
 use Rattle.trie_theory.specs.Dimensions.{Above, root, below}
-use Rattle.trie_theory.specs.SmallTrie.{alone, two, differing, split, added, grown, smallTrie}
-use Rattle.trie_theory.specs.Sound.{Starts, Sound, Ascending, Bare}
+use Rattle.trie_theory.specs.SmallTrie.{newLeaf, two, differing, split, added, grown, smallTrie}
+use Rattle.trie_theory.specs.Sound.{Starts, Sound, Ascending, EmptySuffixes}
 use Rattle.trie_theory.specs.Entries.{complete, Stops, Small}
 use Rattle.buffer.proofs.Lists.{all-head, all-append, all-left, all-right, all-unmap, all-imp}
 use Rattle.buffer.proofs.Sums.{equal-all}
-use Rattle.trie_theory.proofs.Prefix.{From, goesOn-prefixes, prefixes-refl}
+use Rattle.trie_theory.proofs.Prefix.{From, allBegin-prefixes, prefixes-refl}
 use Rattle.trie_theory.proofs.Strings.{at-join, at-total, total-strip}
 use Rattle.trie_theory.proofs.Keys.{keys-from}
 use Rattle.trie_theory.proofs.Free.{Free, at-split, held-below}
@@ -54,47 +54,47 @@ leaf-ends s (t ∷ ts) x f l b h =
     ∙ ap (λ (l : List ℕ). l ++ at d (strip s (x .strings)))
     (sym (at-join d s (t .strings) ∙ ap (λ (l : List ℕ). at d s ++ l) (none-total (t .strings) (all-head b) d) ∙ append-nil (at d s)))))
 
-alone-bare : (x : Key) (more : Forest) → Bare more → Bare (alone x more)
-unfolding Bare alone remains
-alone-bare x more b = (cons {x = remains (x .strings) x} (strip-self (x .strings)) nil, b)
+newLeaf-empty : (x : Key) (more : Forest) → EmptySuffixes more → EmptySuffixes (newLeaf x more)
+unfolding EmptySuffixes newLeaf remains
+newLeaf-empty x more b = (cons {x = remains (x .strings) x} (strip-self (x .strings)) nil, b)
 
-module _ (node : Strings → Forest → Forest) (make : (s : Strings) (more : Forest) → Bare more → Bare (node s more)) where
-  two-bare : (d : ℕ) (s : Strings) (x : Key) → Bare (two d node s x)
-  unfolding two Bare
-  two-bare d s x = go (ltb (first d (x .strings)) (first d s))
+module _ (node : Strings → Forest → Forest) (make : (s : Strings) (more : Forest) → EmptySuffixes more → EmptySuffixes (node s more)) where
+  two-empty : (d : ℕ) (s : Strings) (x : Key) → EmptySuffixes (two d node s x)
+  unfolding two EmptySuffixes
+  two-empty d s x = go (ltb (first d (x .strings)) (first d s))
     where
-      go : (w : Bool) → Bare (cond w (alone x (node s none)) (node s (alone x none)))
-      go true = alone-bare x (node s none) (make s none tt)
-      go false = make s (alone x none) (alone-bare x none tt)
+      go : (w : Bool) → EmptySuffixes (cond w (newLeaf x (node s none)) (node s (newLeaf x none)))
+      go true = newLeaf-empty x (node s none) (make s none tt)
+      go false = make s (newLeaf x none) (newLeaf-empty x none tt)
 
-  placed-bare : (above : Above) (s : Strings) (x : Key) (agreed more later : Forest) → Bare more
-      → (goesOn s (x .strings) ≡ true → Bare agreed) → Bare later → Bare (placed above node s x agreed more later)
-  unfolding split Bare
-  placed-bare above s x agreed more later b ha hl =
+  placed-empty : (above : Above) (s : Strings) (x : Key) (agreed more later : Forest) → EmptySuffixes more
+      → (allBegin s (x .strings) ≡ true → EmptySuffixes agreed) → EmptySuffixes later → EmptySuffixes (placed above node s x agreed more later)
+  unfolding split EmptySuffixes
+  placed-empty above s x agreed more later b ha hl =
       let p = commons s (x .strings) in
-      placed-cases Bare above node s x agreed more later
+      placed-cases EmptySuffixes above node s x agreed more later
       (λ m g. ha g)
-      (λ m g. (two-bare (differing above (strip p s)) (strip p s) (remains p x), b))
-      (λ m a. alone-bare x (node s more) (make s more b))
+      (λ m g. (two-empty (differing above (strip p s)) (strip p s) (remains p x), b))
+      (λ m a. newLeaf-empty x (node s more) (make s more b))
       (λ m a. make s later hl)
 
 -- ONE PATH AND VALUE PER LEAF
-pub bare-added : (n : ℕ) (above : Above) (f : Forest) (x : Key) → Sound n above f → Bare f → All (λ y. Free y x) (keys [] f)
-    → Bare (added above f x)
-unfolding added Bare alone Sound keys join remains
-bare-added n above none x h b held = alone-bare x none tt
-bare-added n above (leaf s ts more) x h b held =
-    placed-bare (λ s′ m. leaf s′ ts m) (λ s′ m r. (b .0, r)) above s x (leaf s (ts ++ (remains s x ∷ [])) more) more
+pub empty-added : (n : ℕ) (above : Above) (f : Forest) (x : Key) → Sound n above f → EmptySuffixes f → All (λ y. Free y x) (keys [] f)
+    → EmptySuffixes (added above f x)
+unfolding added EmptySuffixes newLeaf Sound keys join remains
+empty-added n above none x h b held = newLeaf-empty x none tt
+empty-added n above (leaf s ts more) x h b held =
+    placed-empty (λ s′ m. leaf s′ ts m) (λ s′ m r. (b .0, r)) above s x (leaf s (ts ++ (remains s x ∷ [])) more) more
     (added above more x) (b .1)
     (λ g.
-    let none-left = leaf-ends s ts x (goesOn-prefixes s (x .strings) g) (h .1) (b .0) (all-left (map (under s) ts) (keys [] more) held) in
+    let none-left = leaf-ends s ts x (allBegin-prefixes s (x .strings) g) (h .1) (b .0) (all-left (map (under s) ts) (keys [] more) held) in
     (all-append (b .0) (cons {x = remains s x} none-left nil), b .1))
-    (bare-added n above more x (h .3) (b .1) (all-right (map (under s) ts) (keys [] more) held))
-bare-added n above (inner d s children more) x h b held =
-    placed-bare (λ s′ m. inner d s′ children m) (λ s′ m r. (b .0, r))
+    (empty-added n above more x (h .3) (b .1) (all-right (map (under s) ts) (keys [] more) held))
+empty-added n above (inner d s children more) x h b held =
+    placed-empty (λ s′ m. inner d s′ children m) (λ s′ m r. (b .0, r))
     above s x (inner d s (added (below d) children (remains s x)) more) more (added above more x) (b .1)
-    (λ g. (bare-added n (below d) children (remains s x) (h .2) (b .0) (below-held (goesOn-prefixes s (x .strings) g)), b .1))
-    (bare-added n above more x (h .3) (b .1) (all-right (keys s children) (keys [] more) held))
+    (λ g. (empty-added n (below d) children (remains s x) (h .2) (b .0) (below-held (allBegin-prefixes s (x .strings) g)), b .1))
+    (empty-added n above more x (h .3) (b .1) (all-right (keys s children) (keys [] more) held))
   where
     below-held : From s x → All (λ y. Free y (remains s x)) (keys [] children)
     below-held f =
@@ -103,8 +103,8 @@ bare-added n above (inner d s children more) x h b held =
 
 module _ (cs : List (List ℕ → Bool)) (stop : All Stops cs) where
   pub small-none : Small cs none
-  unfolding Sound Bare keys
-  small-none = record { sound = tt; bare = tt; whole = nil }
+  unfolding Sound EmptySuffixes keys
+  small-none = record { sound = tt; empty-suffixes = tt; whole = nil }
 
   -- AN ADDITION LEAVES A SMALL TRIE, whoever made it
   pub small-added : (t : Forest) (x : Key) → Small cs t → complete cs (x .strings) ≡ true → Small cs (added root t x)
@@ -112,7 +112,7 @@ module _ (cs : List (List ℕ → Bool)) (stop : All Stops cs) where
   small-added t x h q = record {
     sound = sound-added (length cs) root t x (h .sound) (complete-wide cs (x .strings) q) tt
         (all-imp (λ y p. complete-free stop x y q p) (h .whole));
-    bare = bare-added (length cs) root t x (h .sound) (h .bare) (all-imp (λ y p. complete-free stop y x p q) (h .whole));
+    empty-suffixes = empty-added (length cs) root t x (h .sound) (h .empty-suffixes) (all-imp (λ y p. complete-free stop y x p q) (h .whole));
     whole = equal-all (keys [] (added root t x)) (x ∷ keys [] t) (λ f. unfold sum in sum-added f root [] t x)
         (λ y. complete cs (y .strings)) (λ y. complete cs (y .strings) ≡ true) (λ y e. e) (λ y e. e) (cons q (h .whole));
   }
