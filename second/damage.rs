@@ -1,6 +1,6 @@
 //! Stores that our calls did not leave. What is decided there: refusals but for 11, that search and reading back leave the store as it
-//! was, that nothing changes beyond the need and after the last row, that 11 is said only where held rows would not fit, and that an
-//! addition gives the held number that the store has then.
+//! was, that nothing changes beyond the need and after the last row, that 11 is said only where held rows would not fit, that a level
+//! numbered L or above has no rows, and that an addition counts its entry, keeps M, L and τ, and gives the held number.
 
 use crate::book::{Book, Entry, Numbers, Reply, RECORD, ROW};
 use crate::calls::{run, Guarded};
@@ -57,10 +57,14 @@ fn check_answer(call: &Call, held: u64, got: Reply, answer: &[u8], size: usize) 
     }
 }
 
-/// 0, or 100 and no change; the values are the held number afterwards and zero.
+/// 0, with one more held and M, L and τ as before, or 100 and no change; the values are the held number afterwards and zero.
 fn check_addition(before: &[u8], after: &[u8], need: usize, got: Reply) -> Result<(), String> {
     match got {
-        Reply { number: 0, .. } => difference("beyond the need", &after[need..], &before[need..])?,
+        Reply { number: 0, .. } if word(after, 12) != word(before, 12) + 1 => return Err("the entry is not counted".to_string()),
+        Reply { number: 0, .. } => {
+            difference("M, L and tau", &after[..12], &before[..12])?;
+            difference("beyond the need", &after[need..], &before[need..])?
+        }
         Reply { number: 100, .. } => difference("memory after 100", after, before)?,
         _ => return Err("neither 0 nor 100".to_string()),
     }
@@ -89,6 +93,7 @@ fn check(call: &Call, before: &[u8], after: &[u8], got: Reply, answer: &[u8]) ->
     match call {
         Call::Add { .. } => check_addition(before, after, numbers.need(), got),
         Call::ReadLevel { .. } if got.second != 0 => Err("a level read back with a second value".to_string()),
+        Call::ReadLevel { level, .. } if *level >= numbers.l && (got.number, got.first) != (0, 0) => Err("rows of no level".to_string()),
         _ => {
             difference("a store that is only read", after, before)?;
             check_answer(call, held, got, answer, if matches!(call, Call::Search { .. }) { ROW } else { RECORD })

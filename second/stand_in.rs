@@ -31,14 +31,10 @@ fn book_of(store: &[u8]) -> Book {
     known.map_or_else(|| damaged(numbers, held), |(_, book)| book.clone())
 }
 
-/// A book for bytes that are not known: only what the front says.
+/// A book for bytes that are not known: only what the front says, with one entry as often as it says.
 fn damaged(numbers: Numbers, held: u64) -> Book {
-    let mut book = Book { numbers: Some(numbers), entries: Vec::new() };
-    if held == numbers.limit() as u64 {
-        let entry = book::Entry { path: b"/?".to_vec(), value: 0, reference: vec![0; 20] };
-        book.entries = vec![entry; numbers.limit()];
-    }
-    book
+    let entry = book::Entry { path: b"/?".to_vec(), value: 0, reference: vec![0; 20] };
+    Book { numbers: Some(numbers), entries: vec![entry; held as usize] }
 }
 
 fn keep(store: &mut [u8], book: Book) {

@@ -27,8 +27,8 @@ use Rattle.book.proofs.Overflow.{stays, overflows, ones, round-full}
 use Rattle.book.proofs.Keys.{fits-rows}
 use Rattle.book.proofs.Book.{all-snoc}
 use Rattle.buffer.proofs.Lists.{tested-drop}
-use Rattle.book.proofs.Listed.{count-append}
-use Rattle.book.proofs.OverTries.{kept-count, count-none, none-count}
+use Rattle.buffer.proofs.Sums.{count-append, count-none, none-count}
+use Rattle.book.proofs.OverTries.{kept-count}
 
 pub small-empty : smallTrie [] ≡ none
 unfolding smallTrie grown

@@ -25,7 +25,7 @@ use Rattle.trie_theory.specs.Lookup.{member}
 use Rattle.trie_theory.specs.Search.{nodesEntered}
 use Rattle.entries.specs.Keys.{entryKey}
 use Rattle.entries.specs.Query.{Query, reaches}
-use Rattle.book.specs.Front.{Front, frontRoom, entryRoom, frontBytes}
+use Rattle.book.specs.Front.{Front, frontRoom, entryRoom, frontBytes, heldAt}
 use Rattle.book.specs.Digits.{digit, rounds, small}
 use Rattle.book.specs.Book.{Book, Sound, held, front, put, has, formed}
 use Rattle.book.specs.Tries.{every, levelTrie, tries}
@@ -40,7 +40,7 @@ use Rattle.book.proofs.Front.{within}
 use Rattle.book.proofs.Overflow.{small-length}
 use Rattle.book.proofs.Numbers.{acceptable}
 use Rattle.book.proofs.Book.{put-sound, accepted-formed}
-use Rattle.book.proofs.Regions.{smallAt, heldAt, regions-same}
+use Rattle.book.proofs.Regions.{smallAt, regions-same}
 use Rattle.book.proofs.Additions.{not-all-full}
 use Rattle.book.proofs.Writes.{zeros, add-small, add-level}
 use Rattle.book.proofs.OverTries.{looked-up}

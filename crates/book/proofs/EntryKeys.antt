@@ -9,7 +9,7 @@ use lib.Dec.{ltb}
 use lib.Seq.{length-take-le}
 use borrow.Author.Tests.{eqb-true, eq-eqb, le-leb, lt-ltb}
 use Rattle.buffer.specs.Lists.{All, nil, cons, all}
-use Rattle.buffer.specs.Numbers.{bytesOf, number, byte}
+use Rattle.buffer.specs.Numbers.{bytesOf, number}
 use Rattle.buffer.proofs.Tests.{and-left, and-right, and-both}
 use Rattle.buffer.proofs.Digits.{bytesOf-number}
 use Rattle.matcher.specs.Bytes.{pathLimit}

@@ -5,18 +5,18 @@ use mathlib.Core.Bool.{Bool, true, false}
 use mathlib.Core.List.{List, [], _∷_, map}
 use native.Mathlib.Omega.{arith}
 use lib.ListN.{length, length-map}
-use lib.Dec.{ltb}
-use borrow.Author.Tests.{eqb-true, lt-ltb, le-ltb}
+use borrow.Author.Tests.{eqb-true, lt-ltb}
 use Rattle.buffer.specs.Lists.{pick, count, flat}
 use Rattle.buffer.specs.Splice.{splice}
-use Rattle.matcher.specs.Form.{patternForm, isFine}
+use Rattle.buffer.proofs.Sums.{length-pick}
 use Rattle.rows.specs.Sizes.{rowSize, recordSize}
 use Rattle.rows.specs.Entry.{Entry, row}
 use Rattle.rows.specs.Order.{entryOrder}
 use Rattle.rows.specs.Sorted.{sorted}
 use Rattle.rows.proofs.Sorted.{length-sorted, ascending-sorted}
 use Rattle.rows.proofs.Rows.{entry-order}
-use Rattle.entries.specs.Query.{Query, matchesEntry}
+use Rattle.trie_theory.specs.Search.{admitted}
+use Rattle.entries.specs.Query.{Query, matchesEntry, reaches}
 use Rattle.book.specs.Front.{need, capacity, full}
 use Rattle.book.specs.Digits.{level, levelSize, levelStart}
 use Rattle.book.specs.Book.{Book, blank, fresh, held, front, has, distinct}
@@ -24,17 +24,18 @@ use Rattle.book.specs.Searching.{matching, nodes}
 use Rattle.book.specs.Records.{levelRead, records}
 use Rattle.book.specs.Replies.{Reply, reply, Result, result, setupNumber, addNumber, searchNumber, readNumber}
 use Rattle.book.specs.Calls.{Call, setup, add, search, readLevel}
-use Rattle.book.specs.Step.{Outcome, outcome, unless, admit, fill, list, step, answers, after}
+use Rattle.book.specs.Step.{Outcome, outcome, unless, admit, step, answers, after}
 use Rattle.book.specs.Image.{HoldsBook}
 use Rattle.book.specs.Ran.{Did}
 use Rattle.book.specs.Accepted.{noted, notedFrom}
-use Rattle.book.specs.InWords.{Precisely, Lists, Reads, InWords, Demand-3-In-Words}
+use Rattle.book.specs.InWords.{Precisely, SoundSearch, Lists, Enters, Reads, InWords, Demand-3-In-Words}
 use Rattle.book.proofs.Front.{long-enough}
 use Rattle.book.proofs.Numbers.{search-none, read-none, only-full, add-below}
 use Rattle.book.proofs.Book.{search-book, read-book}
-use Rattle.book.proofs.Listed.{length-pick, has-sorted, has-pick, distinct-sorted, distinct-pick, distinct-part}
+use Rattle.book.proofs.Listed.{has-sorted, has-pick, distinct-sorted, distinct-pick, distinct-part}
+use Rattle.book.proofs.Listing.{list-room}
 use Rattle.book.proofs.OneCall.{one-call}
-use Rattle.book.proofs.OverTries.{nodes-branches}
+use Rattle.book.proofs.OverTries.{nodes-entered, nodes-decided}
 use Rattle.book.proofs.Demand3.{demand-3}
 
 -- ---- the book after a call is told from the number that came back
@@ -101,19 +102,19 @@ length-matching q es = length-sorted entryOrder (pick (matchesEntry q) es) ∙ l
 search-told : (b : Book) (n : ℕ) (q : Query) (answer : List ℕ) → searchNumber n (front b) q ≡ 0 → count (matchesEntry q) (b .entries) * rowSize ≤ length answer
     → let found = matching q (b .entries) in
     step b (search n q answer) .result ≡ result (reply 0 (length found) (nodes q b)) (splice answer 0 (flat (map row found)))
-unfolding step list fill
+unfolding step
 search-told b n q answer z space =
     let found = matching q (b .entries) in
-    let y : ltb (length answer) (length (map row found) * rowSize) ≡ false = rw (length-map found row, length-matching q (b .entries)) (le-ltb (length answer) (count (matchesEntry q) (b .entries) * rowSize) space) in
-    rw (z, y, length-map found row)
+    rw z (list-room rowSize (map row found) (nodes q b) answer (rw (length-map found row, length-matching q (b .entries)) space)
+    ∙ ap (λ (k : ℕ). result (reply 0 k (nodes q b)) (splice answer 0 (flat (map row found)))) (length-map found row))
 
 read-told : (b : Book) (n i : ℕ) (answer : List ℕ) → readNumber n (front b) ≡ 0 → length (levelRead i b) * recordSize ≤ length answer
     → step b (readLevel n i answer) .result ≡ result (reply 0 (length (levelRead i b)) 0) (splice answer 0 (flat (records i b)))
-unfolding step list fill
+unfolding step
 read-told b n i answer z space =
     let size : length (records i b) ≡ length (levelRead i b) = unfold records in length-map (levelRead i b) _ in
-    let y : ltb (length answer) (length (records i b) * recordSize) ≡ false = rw size (le-ltb (length answer) (length (levelRead i b) * recordSize) space) in
-    rw (z, y, size)
+    rw z (list-room recordSize (records i b) 0 answer (rw size space)
+    ∙ ap (λ (k : ℕ). result (reply 0 k 0) (splice answer 0 (flat (records i b)))) size)
 
 level-read : (i : ℕ) (b : Book) → i < b .L → levelRead i b ≡ sorted entryOrder (level (b .M) i (b .entries))
 unfolding levelRead
@@ -139,17 +140,29 @@ level-distinct m i es d = distinct-part (levelSize m i es) (levelStart m i es) e
 -- ---- THE WORDS
 
 module _ {memory : List ℕ} {b : Book} (h : HoldsBook memory b) where
-  search-lists : {n : ℕ} {q : Query} {answer : List ℕ} {r : Result} {end : List ℕ} → Did memory (search n q answer) r end
-      → need (b .M) (b .L) ≤ n → isFine (patternForm (q .pattern)) ≡ true → q .low ≤ q .high
-      → count (matchesEntry q) (b .entries) * rowSize ≤ length answer → Lists q answer b r
-  search-lists {n} {q} {answer} d enough fine range space =
+  search-is : {q : Query} {answer : List ℕ} {r : Result} → SoundSearch b memory q answer r
+      → let found = matching q (b .entries) in r ≡ result (reply 0 (length found) (nodes q b)) (splice answer 0 (flat (map row found)))
+  search-is {q} {answer} d =
+      one-call (search (d .lent) q answer) h (d .did) .result
+      ∙ search-told b (d .lent) q answer (search-none (d .lent) (front b) q (long-enough (d .lent) b (h .sound) (d .enough)) (d .formed) (d .range)) (d .space)
+
+  search-lists : {q : Query} {answer : List ℕ} {r : Result} → SoundSearch b memory q answer r → Lists q answer b r
+  search-lists {q} {answer} d =
+      let e = search-is d in
       record {
         found = matching q (b .entries);
         precisely = matching-precise q (b .entries) (h .sound .once);
-        says =
-            one-call (search n q answer) h d .result
-            ∙ search-told b n q answer (search-none n (front b) q (long-enough n b (h .sound) enough) fine range) space
-            ∙ ap (λ (k : ℕ). result (reply 0 (length (matching q (b .entries))) k) (splice answer 0 (flat (map row (matching q (b .entries)))))) (nodes-branches b (h .sound) q);
+        number = ap (λ (x : Result). x .reply .number) e;
+        rows = ap (λ (x : Result). x .reply .first) e;
+        listed = ap (λ (x : Result). x .answer) e;
+      }
+
+  pruning : {q : Query} {answer : List ℕ} {r : Result} → SoundSearch b memory q answer r → Enters q b (r .reply .second)
+  pruning {q} d =
+      record {
+        entered = admitted (reaches q);
+        exactly = nodes-decided b (h .sound) q;
+        number = ap (λ (x : Result). x .reply .second) (search-is d) ∙ nodes-entered b (h .sound) q;
       }
 
   reads-level : {n i : ℕ} {answer : List ℕ} {r : Result} {end : List ℕ} → Did memory (readLevel n i answer) r end
@@ -175,7 +188,7 @@ module _ {memory : List ℕ} {b : Book} (h : HoldsBook memory b) where
   there-only {n} {e} d z = add-told b n e .hundred (sym (ap (λ (x : Result). x .reply .number) (one-call (add n e) h d .result)) ∙ z)
 
   words : InWords b memory
-  words = record { accepted-once = h .sound .once; search-lists = search-lists; full-only = full-only; there-only = there-only; reads-level = reads-level }
+  words = record { accepted-once = h .sound .once; search-lists = search-lists; pruning = pruning; full-only = full-only; there-only = there-only; reads-level = reads-level }
 
 -- DEMAND 3 IN ITS OWN WORDS
 pub in-words : Demand-3-In-Words

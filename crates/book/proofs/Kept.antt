@@ -9,11 +9,12 @@ use native.Mathlib.Omega.{arith}
 use native.Mathlib.Nat.{zero-mul}
 use lib.ListN.{length, take, drop, length-map, length-append, length-take, length-drop}
 use lib.Dec.{ltb}
-use borrow.Author.Tests.{ltb-true, ltb-false}
+use borrow.Author.Tests.{ltb-true, ltb-false, le-ltb}
 use Rattle.buffer.specs.Lists.{all, pick, flat}
 use Rattle.buffer.specs.Splice.{splice}
 use Rattle.buffer.proofs.Lists.{all-tested, all-test, all-pick, all-imp}
 use Rattle.buffer.proofs.Splice.{length-splice, drop-after}
+use Rattle.buffer.proofs.Sums.{length-pick, count-most}
 use Rattle.rows.specs.Sizes.{rowSize, recordSize}
 use Rattle.rows.specs.Entry.{Entry, row, fitsRow}
 use Rattle.rows.specs.Order.{entryOrder}
@@ -21,9 +22,9 @@ use Rattle.rows.specs.Sorted.{sorted}
 use Rattle.rows.proofs.Sorted.{all-sorted, length-sorted}
 use Rattle.rows.proofs.Rows.{length-row, length-side-by-side}
 use Rattle.entries.specs.Query.{Query, matchesEntry}
-use Rattle.book.specs.Front.{Front, frontOf, need}
+use Rattle.book.specs.Front.{Front, frontOf, holding, need}
 use Rattle.book.specs.Digits.{level}
-use Rattle.book.specs.Book.{Book, Sound, held, front, has}
+use Rattle.book.specs.Book.{Book, Sound, held, front, put, has}
 use Rattle.book.specs.Tries.{levelTrie}
 use Rattle.book.specs.Searching.{matching}
 use Rattle.book.specs.Records.{recordOf, levelRead, records}
@@ -35,8 +36,8 @@ use Rattle.book.specs.Promises.{Added, Adds, Accepted, NoRoom, Searches,
 use Rattle.book.proofs.Keys.{fits-rows}
 use Rattle.book.proofs.Book.{step-sound, add-same}
 use Rattle.book.proofs.Image.{length-image, level-formed}
+use Rattle.book.proofs.Listing.{list-none}
 use Rattle.book.proofs.OneCall.{front-read, holds-after}
-use Rattle.book.proofs.Listed.{length-pick, count-most}
 use Rattle.book.proofs.Records.{length-record}
 use Rattle.book.proofs.Unique.{same-tries}
 use Rattle.book.proofs.Alike.{search-alike, read-alike, add-alike}
@@ -121,7 +122,7 @@ read-fits i b s = go (ltb i (b .L))
     go true = all-sorted entryOrder fitsRow (level (b .M) i (b .entries)) (fits-rows (level (b .M) i (b .entries)) (level-formed (b .M) i (b .entries) (s .formed)))
     go false = refl
 
-level-most : (m i : ℕ) (es : List Entry) → length (level m i es) ≤ length es
+pub level-most : (m i : ℕ) (es : List Entry) → length (level m i es) ≤ length es
 unfolding level
 level-most m i es = simp (length-take, length-drop) (omega arith)
 
@@ -132,6 +133,12 @@ read-few i b = go (ltb i (b .L))
     go : (w : Bool) → length (cond w (sorted entryOrder (level (b .M) i (b .entries))) []) ≤ held b
     go true = omega (arith, length-sorted entryOrder (level (b .M) i (b .entries)), level-most (b .M) i (b .entries))
     go false = omega arith
+
+-- a level numbered L or above
+read-above : (i n : ℕ) (b : Book) (answer : List ℕ) → readNumber n (front b) ≡ 0 → b .L ≤ i
+    → step b (readLevel n i answer) .result ≡ result (reply 0 0 0) answer
+unfolding step records levelRead
+read-above i n b answer z h = rw (z, le-ltb i (b .L) h) (list-none recordSize 0 answer)
 
 pub read-kept : {store : List ℕ} {b : Book} (i : ℕ) (answer : List ℕ) → HoldsBook store b
     → let r = step b (readLevel (length store) i answer) .result in ReadsLevel i store answer (r .answer) (r .reply)
@@ -150,6 +157,7 @@ read-kept {store} {b} i answer h =
           (length-side-by-side shape recordSize (length-record (b .τ) es (level-formed (b .M) i (b .entries) (h .sound .formed))) found (read-fits i b (h .sound))
           ∙ ap (λ (k : ℕ). k * recordSize) (sym (length-map found shape)))
           (omega (arith, length-map found shape, read-few i b))));
+      above = λ e l. read-above i (length store) b answer (ap (readNumber (length store)) (sym f) ∙ e) (rw f at l);
       second = second-zero (readNumber (length store) (front b));
       ours = λ b′ h′. read-alike b b′ (same-tries h h′) (h .sound) (h′ .sound) (length store) i answer;
     }
@@ -164,6 +172,7 @@ read-foreign i store answer none =
     record {
       refused = λ n e. ap (λ (x : ℕ). result (reply x 0 0) answer) e;
       otherwise = λ e. inl (record { number = e; room = rw (zero-mul recordSize) (omega arith); size = refl; after-rows = refl });
+      above = λ e l. ap (λ (x : ℕ). result (reply x 0 0) answer) e;
       second = refl;
       ours = λ b h. absurd (none b h);
     }
@@ -171,14 +180,16 @@ read-foreign i store answer none =
 -- ---- addition
 
 add-says : (b : Book) (n : ℕ) (e : Entry) → addNumber n (front b) e ≡ 0 → let o = step b (add n e) in
-    ((o .result .reply .number ≡ 0) ⊎ ((o .result .reply .number ≡ 100) × (o .book ≡ b))) × (o .result .reply .first ≡ held (o .book)) × (o .result .reply .second ≡ 0)
+    (((o .result .reply .number ≡ 0) × (o .book ≡ put e b)) ⊎ ((o .result .reply .number ≡ 100) × (o .book ≡ b)))
+    × (o .result .reply .first ≡ held (o .book)) × (o .result .reply .second ≡ 0)
 unfolding step
 add-says b n e z = rw z (go (has (b .entries) e))
   where
     go : (w : Bool) → let o = admit w e b in
-        ((o .result .reply .number ≡ 0) ⊎ ((o .result .reply .number ≡ 100) × (o .book ≡ b))) × (o .result .reply .first ≡ held (o .book)) × (o .result .reply .second ≡ 0)
+        (((o .result .reply .number ≡ 0) × (o .book ≡ put e b)) ⊎ ((o .result .reply .number ≡ 100) × (o .book ≡ b)))
+        × (o .result .reply .first ≡ held (o .book)) × (o .result .reply .second ≡ 0)
     go true = (inr (refl, refl), refl, refl)
-    go false = (inl refl, sym (length-append (b .entries) (e ∷ [])), refl)
+    go false = (inl (refl, refl), sym (length-append (b .entries) (e ∷ [])), refl)
 
 add-refusal : (b : Book) (n : ℕ) (e : Entry) (k : ℕ) → addNumber n (front b) e ≡ suc k → let o = step b (add n e) in (o .result .reply ≡ reply (suc k) 0 0) × (o .book ≡ b)
 unfolding step
@@ -223,13 +234,19 @@ module _ {store : List ℕ} {b : Book} (e : Entry) (h : HoldsBook store b) (t : 
       holds-after n store after-sound (rw after-need (h .holds .enough)) (omega arith)
       (whole written after-length ∙ ap (λ (s : List ℕ). splice s 0 (image (stepped .book))) (sym (whole store refl)))
 
+  after-front : stepped .book ≡ put e b → frontOf written ≡ holding (frontOf store .held + 1) (frontOf store)
+  after-front q =
+      front-read after-holds ∙ ap front q
+      ∙ ap (λ (n : ℕ). holding n (front b)) (length-append (b .entries) (e ∷ []))
+      ∙ ap (λ (f : Front). holding (f .held + 1) f) (sym (front-read h))
+
   added : addNumber (length store) (front b) e ≡ 0 → Added store written (stepped .result .reply)
   unfolding written stepped
   added z =
       let p = add-says b (length store) e z in
       let n = need (b .M) (b .L) in
       record {
-        number = ⊎-elim (λ x. inl x) (λ x. inr (x .0, ap (λ (d : Book). splice store 0 (image d)) (x .1) ∙ unchanged-store h)) (p .0);
+        number = ⊎-elim (λ x. inl (x .0, after-front (x .1))) (λ x. inr (x .0, ap (λ (d : Book). splice store 0 (image d)) (x .1) ∙ unchanged-store h)) (p .0);
         first = p .1 ∙ sym (ap (λ (f : Front). f .held) (front-read after-holds));
         second = p .2;
         size = after-length;

@@ -4,7 +4,7 @@ use mathlib.Core.Path.{_≡_, refl}
 use mathlib.Core.Bool.{Bool, true, false, not, cond, _&&_, _||_}
 use mathlib.Core.List.{List, [], _∷_, _++_, map}
 use native.Mathlib.Omega.{arith}
-use lib.ListN.{length, take, length-append}
+use lib.ListN.{length, length-append}
 use lib.Dec.{eqb, leb, ltb}
 use borrow.Author.Tests.{eqb-true, eq-eqb, leb-true, le-leb, ltb-true, ltb-false, lt-ltb}
 use Rattle.buffer.specs.Lists.{All, nil, cons, none, all}
@@ -131,12 +131,11 @@ pub fits-rows : (es : List Entry) → all formed es ≡ true → all fitsRow es 
 fits-rows es h = all-test fitsRow (all-imp fits-row (all-tested formed es h))
 
 -- a key gives its entry back
-before-last : (t : List ℕ) → take (length (t ++ (0 ∷ [])) - 1) (t ++ (0 ∷ [])) ≡ t
-before-last t = take-at t (0 ∷ []) (length (t ++ (0 ∷ [])) - 1) (omega (arith, length-append t (0 ∷ [])))
-
 pub key-entry : (e : Entry) → keyEntry (entryKey e) ≡ e
 unfolding keyEntry entryKey
-key-entry e = λ i. record { path = before-last (e .path) i; value = number-bytesOf 7 (e .value) i; reference = e .reference }
+key-entry e =
+    let last = take-at (e .path) (0 ∷ []) (length (e .path ++ (0 ∷ [])) - 1) (omega (arith, length-append (e .path) (0 ∷ []))) in
+    λ i. record { path = last i; value = number-bytesOf 7 (e .value) i; reference = e .reference }
 
 -- ---- keys of entries, as a test
 

@@ -9,6 +9,7 @@ pub mod Image
 pub mod OneCall
 pub mod Demand3
 pub mod Listed
+pub mod Listing
 pub mod InWords
 pub mod OverTries
 pub mod Additions

@@ -1,53 +1,21 @@
 -- Which entries stand in a list, and how often: sorting keeps it, picking keeps what passes, a stretch has none more often.
-use Prim.Native.Nat.{ℕ, suc, _+_, _≤_}
+use Prim.Native.Nat.{ℕ, suc, _≤_}
 use mathlib.Core.Path.{_≡_, refl, sym, ap, _∙_}
 use mathlib.Core.Bool.{Bool, true, false, not, cond, _&&_, _||_}
-use mathlib.Core.List.{List, [], _∷_, _++_}
+use mathlib.Core.List.{List, [], _∷_}
 use native.Mathlib.Omega.{arith}
-use lib.ListN.{length, take, drop, take-append-drop}
+use lib.ListN.{take, drop, take-append-drop}
 use lib.Dec.{ltb}
-use borrow.Author.Tests.{lt-ltb, le-ltb, not-true, ltb-false}
+use borrow.Author.Tests.{le-ltb, not-true, ltb-false}
 use Rattle.buffer.specs.Lists.{any, pick, count}
 use Rattle.buffer.proofs.Tests.{and-left, and-right, and-both}
-use Rattle.buffer.proofs.Sums.{count-sum, sum-append}
+use Rattle.buffer.proofs.Sums.{any-count, count-append}
 use Rattle.rows.specs.Entry.{Entry, sameEntry}
 use Rattle.rows.specs.Order.{entryOrder}
 use Rattle.rows.specs.Sorted.{sorted}
 use Rattle.rows.proofs.Sorted.{count-sorted}
 use Rattle.rows.proofs.Rows.{same-entry}
 use Rattle.book.specs.Book.{has, distinct}
-
-pub length-pick : {A : Type 0} (t : A → Bool) (xs : List A) → length (pick t xs) ≡ count t xs
-unfolding pick count
-length-pick t [] = refl
-length-pick t (x ∷ xs) = go (t x) (length-pick t xs)
-  where
-    go : (b : Bool) → length (pick t xs) ≡ count t xs → length (cond b (x ∷ pick t xs) (pick t xs)) ≡ cond b (suc (count t xs)) (count t xs)
-    go true e = ap suc e
-    go false e = e
-
-pub count-most : {A : Type 0} (t : A → Bool) (xs : List A) → count t xs ≤ length xs
-unfolding count
-count-most t [] = omega arith
-count-most t (x ∷ xs) = go (t x) (count-most t xs)
-  where
-    go : (b : Bool) → count t xs ≤ length xs → cond b (suc (count t xs)) (count t xs) ≤ suc (length xs)
-    go true h = omega arith
-    go false h = omega arith
-
-pub any-count : {A : Type 0} (t : A → Bool) (xs : List A) → any t xs ≡ ltb 0 (count t xs)
-unfolding any count
-any-count t [] = refl
-any-count t (x ∷ xs) = go (t x) (any-count t xs)
-  where
-    go : (b : Bool) → any t xs ≡ ltb 0 (count t xs) → b || any t xs ≡ ltb 0 (cond b (suc (count t xs)) (count t xs))
-    go true e = sym (lt-ltb 0 (suc (count t xs)) (omega arith))
-    go false e = e
-
-pub count-append : {A : Type 0} (t : A → Bool) (xs ys : List A) → count t (xs ++ ys) ≡ count t xs + count t ys
-count-append {A} t xs ys =
-    let h : A → ℕ = λ x. cond (t x) 1 0 in
-    omega (arith, count-sum t (xs ++ ys), sum-append h xs ys, count-sum t xs, count-sum t ys)
 
 pub has-sorted : (es : List Entry) (e : Entry) → has (sorted entryOrder es) e ≡ has es e
 has-sorted es e = any-count (sameEntry e) (sorted entryOrder es) ∙ ap (ltb 0) (count-sorted entryOrder (sameEntry e) es) ∙ sym (any-count (sameEntry e) es)

@@ -2,14 +2,15 @@
 -- the sequence of its entries, so each law counts.
 use Prim.Native.Nat.{ℕ, zero, suc, _+_}
 use mathlib.Core.Path.{_≡_, refl, sym, ap, ap₂, _∙_, subst}
-use mathlib.Core.Bool.{Bool, true, false, not, cond, _&&_, _||_}
+use mathlib.Core.Logic.{_↔_}
+use mathlib.Core.Bool.{Bool, true, false, not, _&&_, _||_}
 use mathlib.Core.List.{List, [], _∷_, _++_, map}
 use native.Mathlib.Omega.{arith}
 use Rattle.trie_theory.specs.Encode.{Twenty}
-use Rattle.buffer.specs.Lists.{All, nil, cons, all, any, pick, sum, count, flat}
+use Rattle.buffer.specs.Lists.{All, nil, cons, all, any, pick, sum, count}
 use Rattle.buffer.proofs.Tests.{and-both, bool-ext}
-use Rattle.buffer.proofs.Lists.{all-imp, all-tested, all-test, any-append, bytes-refl, strings-refl, all-append, all-every, all-pick, pick-append}
-use Rattle.buffer.proofs.Sums.{count-sum, sum-append, sum-map, sum-equal}
+use Rattle.buffer.proofs.Lists.{all-imp, all-tested, all-test, any-append, bytes-refl, strings-refl, all-append, all-every, all-pick, pick-append, all-flat-map}
+use Rattle.buffer.proofs.Sums.{sum-append, sum-equal, count-append, count-map, count-flat, count-agree, count-picked, count-none, none-count}
 use Rattle.rows.specs.Entry.{Entry, sameEntry, fitsRow}
 use Rattle.rows.specs.Order.{entryOrder}
 use Rattle.rows.specs.Sorted.{sorted}
@@ -19,68 +20,27 @@ use Rattle.trie_theory.specs.Forest.{Key, Forest, keys}
 use Rattle.trie_theory.specs.Dimensions.{root}
 use Rattle.trie_theory.specs.Lookup.{sameKey, among, member}
 use Rattle.trie_theory.proofs.Lookup.{sameKey-true}
-use Rattle.trie_theory.specs.Search.{found, nodesEntered, admitted}
+use Rattle.trie_theory.specs.Search.{found, nodesIn, admitted, nodesEntered}
 use Rattle.trie_theory.specs.TrieOf.{TrieOf}
 use Rattle.trie_theory.specs.Entries as Dimensions
 use Rattle.trie_theory.specs.Sound as Trie
 use Rattle.entries.specs.Keys.{entryKey}
 use Rattle.entries.specs.Query.{Query, matchesEntry, reaches, wants}
+use Rattle.entries.specs.Branch.{ToEnter}
 use Rattle.entries.proofs.Branch.{wants-entry}
 use Rattle.entries.proofs.Found.{Valued, found-keys}
+use Rattle.entries.proofs.Entered.{entered-exactly, entered-decided}
 use Rattle.book.specs.Digits.{level, small}
 use Rattle.book.specs.Book.{Book, Sound, has, formed}
 use Rattle.book.specs.Tries.{every, tries}
 use Rattle.book.specs.Searching.{matching, nodesOf, nodes}
-use Rattle.book.specs.InWords.{branches}
-use Rattle.entries.proofs.Entered.{entered-exactly}
+use Rattle.book.specs.InWords.{nodesOfTries}
 use Rattle.book.specs.Overflow.{fromHighest}
 use Rattle.book.specs.FromTries.{keyEntry, entriesOf, foundOf, entriesIn, foundIn, hasIn}
 use Rattle.book.proofs.Digits.{levels-whole}
 use Rattle.book.proofs.Keys.{as-formed, keys-entries, fits-rows, key-entry, isEntry, entry-tested, tested-entry, entry-valued}
 use Rattle.book.proofs.Image.{level-formed, small-formed, small-trie-of, level-trie-of}
-use Rattle.book.proofs.Listed.{count-append, has-sorted}
-
--- ---- counts
-
-pub count-map : {A B : Type 0} (p : B → Bool) (f : A → B) (xs : List A) → count p (map f xs) ≡ count (λ x. p (f x)) xs
-count-map p f xs = count-sum p (map f xs) ∙ sum-map (λ y. cond (p y) 1 0) f xs ∙ sym (count-sum (λ x. p (f x)) xs)
-
-pub count-agree : {A : Type 0} (p p′ : A → Bool) {xs : List A} → All (λ x. p x ≡ p′ x) xs → count p xs ≡ count p′ xs
-unfolding count
-count-agree p p′ nil = refl
-count-agree p p′ (cons {x = x} {xs = xs} h a) = λ i. cond (h i) (suc (count-agree p p′ a i)) (count-agree p p′ a i)
-
-pub count-picked : {A : Type 0} (p t : A → Bool) (xs : List A) → count p (pick t xs) ≡ count (λ x. t x && p x) xs
-unfolding count pick
-count-picked p t [] = refl
-count-picked p t (x ∷ xs) = go (t x) (p x) refl (count-picked p t xs)
-  where
-    go : (a b : Bool) → p x ≡ b → count p (pick t xs) ≡ count (λ x. t x && p x) xs
-        → count p (cond a (x ∷ pick t xs) (pick t xs)) ≡ cond (a && b) (suc (count (λ x. t x && p x) xs)) (count (λ x. t x && p x) xs)
-    go true true h ih = rw h (ap suc ih)
-    go true false h ih = rw h ih
-    go false b h ih = ih
-
-pub count-flat : {A B : Type 0} (p : B → Bool) (g : A → List B) (xs : List A) → count p (flat (map g xs)) ≡ sum (λ x. count p (g x)) xs
-unfolding flat sum count
-count-flat p g [] = refl
-count-flat p g (x ∷ xs) = count-append p (g x) (flat (map g xs)) ∙ ap (λ (n : ℕ). count p (g x) + n) (count-flat p g xs)
-
--- what none fails, all pass
-pub count-none : {A : Type 0} (t : A → Bool) (xs : List A) → count (λ x. not (t x)) xs ≡ 0 → All (λ x. t x ≡ true) xs
-unfolding count
-count-none t [] e = nil
-count-none {A} t (x ∷ xs) e = go (t x) refl e (count-none t xs)
-  where
-    go : (b : Bool) → t x ≡ b → cond (not b) (suc (count (λ x. not (t x)) xs)) (count (λ x. not (t x)) xs) ≡ 0
-        → (count (λ x. not (t x)) xs ≡ 0 → All (λ x. t x ≡ true) xs) → All (λ x. t x ≡ true) (x ∷ xs)
-    go true h e ih = cons h (ih e)
-    go false h e ih = absurd (omega arith)
-
-pub none-count : {A : Type 0} (t : A → Bool) {xs : List A} → All (λ x. t x ≡ true) xs → count (λ x. not (t x)) xs ≡ 0
-unfolding count
-none-count t nil = refl
-none-count t (cons {x = x} {xs = xs} h a) = rw h (none-count t a)
+use Rattle.book.proofs.Listed.{has-sorted}
 
 -- ---- one trie, of the keys of formed entries
 
@@ -230,13 +190,19 @@ module _ (b : Book) (s : Sound b) where
   unfolding hasIn
   looked-up e = looked-below e (b .L) ∙ ap (λ (es : List Entry). has es e) whole
 
-  -- THE NODES ENTERED are those that the rule of entering admits
-  entered-all : (q : Query) (l : ℕ) → All (λ t. nodesEntered (reaches q) root [] t ≡ admitted (reaches q) root [] t) (every l (tries b))
+  -- what holds of every trie of the book
+  each-trie : {P : Forest → Type 0} → ((es : List Entry) (t : Forest) → TrieFor es t → P t) → (l : ℕ) → All P (every l (tries b))
   unfolding every
-  entered-all q zero = cons (let r = small-for b s in entered-exactly q 2 root [] (tries b .small) (r .sound) (valued r)) nil
-  entered-all q (suc l) =
-      all-append (entered-all q l) (cons (let r = level-for b s l in entered-exactly q 2 root [] (tries b .level l) (r .sound) (valued r)) nil)
+  each-trie h zero = cons (h _ (tries b .small) (small-for b s)) nil
+  each-trie h (suc l) = all-append (each-trie h l) (cons (h _ (tries b .level l) (level-for b s l)) nil)
 
-  pub nodes-branches : (q : Query) → nodes q b ≡ branches q b
-  unfolding nodes nodesOf branches
-  nodes-branches q = sum-equal (nodesEntered (reaches q) root []) (admitted (reaches q) root []) (entered-all q (b .L))
+  -- THE NODES ENTERED are those that the rule of entering admits
+  pub nodes-entered : (q : Query) → nodes q b ≡ count (admitted (reaches q)) (nodesOfTries b)
+  unfolding nodes nodesOf nodesOfTries
+  nodes-entered q =
+      sum-equal (nodesEntered (reaches q) root []) (λ t. count (admitted (reaches q)) (nodesIn root [] t)) (each-trie (λ es t r. entered-exactly q 2 root [] t (r .sound) (valued r)) (b .L))
+      ∙ sym (count-flat (admitted (reaches q)) (nodesIn root []) (every (b .L) (tries b)))
+
+  pub nodes-decided : (q : Query) → All (λ x. (admitted (reaches q) x ≡ true) ↔ ToEnter q x) (nodesOfTries b)
+  unfolding nodesOfTries
+  nodes-decided q = all-flat-map (nodesIn root []) (each-trie (λ es t r. entered-decided q 2 root [] t (r .sound) (valued r)) (b .L))

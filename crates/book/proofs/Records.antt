@@ -8,6 +8,7 @@ use lib.ListN.{length, replicate, length-append, length-replicate}
 use borrow.Author.Tests.{lt-ltb}
 use Rattle.buffer.specs.Lists.{all, flat}
 use Rattle.buffer.proofs.Lists.{all-tested, all-test, In, at-head, later, any-in}
+use Rattle.buffer.proofs.Sums.{count-none, none-count}
 use Rattle.rows.specs.Sizes.{recordSize, nodeLimit}
 use Rattle.rows.specs.Entry.{Entry, row, sameEntry, fitsRow}
 use Rattle.rows.specs.Order.{entryOrder}
@@ -27,7 +28,7 @@ use Rattle.book.specs.Records.{stepBytes, walkBytes, recordOf, levelRead
 use Rattle.book.proofs.Keys.{fits-rows}
 use Rattle.book.proofs.Image.{level-formed, level-trie-of}
 use Rattle.book.proofs.Listed.{has-sorted}
-use Rattle.book.proofs.OverTries.{level-for, keys-count, count-none, none-count}
+use Rattle.book.proofs.OverTries.{level-for, keys-count}
 
 length-steps : (steps : List Step) → length (flat (map stepBytes steps)) ≡ 3 * length steps
 unfolding flat stepBytes

@@ -12,8 +12,7 @@ use Rattle.buffer.specs.Splice.{splice, region}
 use Rattle.buffer.specs.Numbers.{bytesOf}
 use Rattle.buffer.proofs.Splice.{splice-is, length-splice, region-drop}
 use Rattle.trie_theory.specs.Encode.{encode}
-pub use Rattle.book.specs.Front.{heldAt}
-use Rattle.book.specs.Front.{Front, frontSize, frontRoom, entryRoom, frontBytes, need}
+use Rattle.book.specs.Front.{Front, frontSize, heldAt, frontRoom, entryRoom, frontBytes, holding, need}
 use Rattle.book.specs.Tries.{Tries}
 use Rattle.book.specs.Image.{padded, regions, storeOf, Holds}
 use Rattle.book.proofs.Image.{Fit, length-padded, length-regions, length-store, length-top}
@@ -47,7 +46,7 @@ write-through s x o b e h =
     left ∙ sym (splice-is s 0 y ∙ ap (λ (k : ℕ). y ++ drop k s) (zero-add (length y) ∙ n))
 
 -- a region within the first bytes of a list
-region-take : (s : List ℕ) (k o n : ℕ) → o + n ≤ k → k ≤ length s → region s o n ≡ region (take k s) o n
+pub region-take : (s : List ℕ) (k o n : ℕ) → o + n ≤ k → k ≤ length s → region s o n ≡ region (take k s) o n
 region-take s k o n h l =
     region-drop s o n (omega arith)
     ∙ ap (drop o) (sym (take-take (o + n) k s h))
@@ -153,9 +152,6 @@ module _ (f : Front) (t : Tries) where
         ∙ sym (Rattle.book.proofs.Regions.at-level f t′ i h)
 
 -- the held number, in its four bytes
-abbrev pub holding : ℕ → Front → Front
-holding n f = record { M = f .M; L = f .L; τ = f .τ; held = n }
-
 pub write-held : (f : Front) (t : Tries) (n : ℕ) → splice (storeOf f t) heldAt (bytesOf 4 n) ≡ storeOf (holding n f) t
 unfolding storeOf padded frontBytes
 write-held f t n =

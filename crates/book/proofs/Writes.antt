@@ -17,7 +17,7 @@ use Rattle.trie_theory.specs.Dimensions.{root}
 use Rattle.trie_theory.specs.SmallTrie.{added}
 use Rattle.trie_theory.specs.Encode.{encode}
 use Rattle.entries.specs.Keys.{entryKey}
-use Rattle.book.specs.Front.{Front, frontRoom, entryRoom, frontBytes, need}
+use Rattle.book.specs.Front.{Front, frontRoom, entryRoom, frontBytes, need, heldAt, holding}
 use Rattle.book.specs.Digits.{digit, rounds, small}
 use Rattle.book.specs.Book.{Book, Sound, held, front, put, formed}
 use Rattle.book.specs.Tries.{Tries, levelTrie, tries}
@@ -25,7 +25,7 @@ use Rattle.book.specs.FromTries.{entriesIn}
 use Rattle.book.specs.Image.{padded, regions, storeOf, image, Holds}
 use Rattle.book.proofs.Book.{all-snoc}
 use Rattle.book.proofs.Image.{Fit, length-regions, length-top, formed-fit, image-fits}
-use Rattle.book.proofs.Regions.{write-through, splice-mid, above, above-same, regions-above, smallAt, heldAt, holding, write-small, write-held}
+use Rattle.book.proofs.Regions.{write-through, splice-mid, above, above-same, regions-above, smallAt, write-small, write-held}
 use Rattle.book.proofs.Additions.{small-grows, levels-stay, small-emptied, lower-emptied, higher-stay, level-built}
 
 -- ---- a memory x whose first bytes are A, and whose others are those of `store`: x ≡ splice store 0 A

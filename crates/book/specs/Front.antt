@@ -21,6 +21,23 @@ frontRoom = 4096
 abbrev pub entryRoom : ℕ
 entryRoom = 1024
 
+-- the greatest M, L and τ
+abbrev pub mLimit : ℕ
+mLimit = 4096
+
+abbrev pub lLimit : ℕ
+lLimit = 8
+
+abbrev pub τLimit : ℕ
+τLimit = 100
+
+-- M × 2^L at the most, and the bytes that such a store needs
+abbrev pub entriesLimit : ℕ
+entriesLimit = mLimit * 2 ^ lLimit
+
+abbrev pub needLimit : ℕ
+needLimit = entryRoom * entriesLimit + frontRoom
+
 pub record Front : Type 0 where
   pub M : ℕ
   pub L : ℕ
@@ -33,11 +50,15 @@ frontBytes f = bytesOf 4 (f .M) ++ (bytesOf 4 (f .L) ++ (bytesOf 4 (f .τ) ++ by
 
 -- .. and read from there
 unfoldable pub frontOf : List ℕ → Front
-frontOf s = record { M = number (region s 0 4); L = number (region s 4 4); τ = number (region s 8 4); held = number (region s 12 4) }
+frontOf s = record { M = number (region s 0 4); L = number (region s 4 4); τ = number (region s 8 4); held = number (region s heldAt 4) }
+
+-- the same numbers but for held
+abbrev pub holding : ℕ → Front → Front
+holding n f = record { M = f .M; L = f .L; τ = f .τ; held = n }
 
 -- M is 1 to 4,096, L 1 to 8, τ 1 to 100
 unfoldable pub inLimits : ℕ → ℕ → ℕ → Bool
-inLimits m l t = (leb 1 m && leb m 4096) && (leb 1 l && leb l 8) && (leb 1 t && leb t 100)
+inLimits m l t = (leb 1 m && leb m mLimit) && (leb 1 l && leb l lLimit) && (leb 1 t && leb t τLimit)
 
 -- the bytes that a store needs
 unfoldable pub need : ℕ → ℕ → ℕ

@@ -2,10 +2,11 @@
 -- proofs/InWords.antt). `accepted` is told from the calls and the numbers that came back.
 use Prim.Native.Nat.{ℕ, _-_, _*_, _^_, _≤_, _<_}
 use mathlib.Core.Path.{_≡_}
+use mathlib.Core.Logic.{_↔_}
 use mathlib.Core.Bool.{Bool, true, _&&_}
 use mathlib.Core.List.{List, [], map}
 use lib.ListN.{length}
-use Rattle.buffer.specs.Lists.{flat, count, sum}
+use Rattle.buffer.specs.Lists.{All, flat, count}
 use Rattle.buffer.specs.Splice.{splice}
 use Rattle.matcher.specs.Form.{patternForm, isFine}
 use Rattle.rows.specs.Sizes.{rowSize, recordSize}
@@ -13,8 +14,9 @@ use Rattle.rows.specs.Entry.{Entry, row}
 use Rattle.rows.specs.Order.{entryOrder}
 use Rattle.rows.specs.Sorted.{ascending}
 use Rattle.trie_theory.specs.Dimensions.{root}
-use Rattle.trie_theory.specs.Search.{admitted}
-use Rattle.entries.specs.Query.{Query, matchesEntry, reaches}
+use Rattle.trie_theory.specs.Search.{Node, nodesIn}
+use Rattle.entries.specs.Query.{Query, matchesEntry}
+use Rattle.entries.specs.Branch.{ToEnter}
 use Rattle.book.specs.Front.{need}
 use Rattle.book.specs.Digits.{level}
 use Rattle.book.specs.Book.{Book, has, distinct}
@@ -31,16 +33,34 @@ pub record Precisely (test : Entry → Bool) (es found : List Entry) : Type 0 wh
   pub once : distinct found ≡ true
   pub in-sequence : ascending entryOrder found ≡ true
 
--- The nodes that a search has to enter: the root of each non-empty trie, and each child, walked to or not, where some path, of any length, and
--- some value could match that begin with the bytes known at its parent and the branching byte (`Branch-Decided` of entries)
-unfoldable pub branches : Query → Book → ℕ
-branches q b = sum (admitted (reaches q) root []) (every (b .L) (tries b))
+-- a sound search with enough answer space, where b has been accepted and `memory` is what the calls before left
+pub record SoundSearch (b : Book) (memory : List ℕ) (q : Query) (answer : List ℕ) (r : Result) : Type 0 where
+  pub lent : ℕ
+  pub after : List ℕ
+  pub did : Did memory (search lent q answer) r after
+  pub enough : need (b .M) (b .L) ≤ lent
+  pub formed : isFine (patternForm (q .pattern)) ≡ true
+  pub range : q .low ≤ q .high
+  pub space : count (matchesEntry q) (b .entries) * rowSize ≤ length answer
 
--- a search lists these rows, their number and the number of nodes so entered; what comes after the last row is unchanged
+-- it lists these rows, and says their number; what comes after the last row is unchanged
 pub record Lists (q : Query) (answer : List ℕ) (b : Book) (r : Result) : Type 0 where
   pub found : List Entry
   pub precisely : Precisely (matchesEntry q) (b .entries) found
-  pub says : r ≡ result (reply 0 (length found) (branches q b)) (splice answer 0 (flat (map row found)))
+  pub number : r .reply .number ≡ 0
+  pub rows : r .reply .first ≡ length found
+  pub listed : r .answer ≡ splice answer 0 (flat (map row found))
+
+-- the nodes of all tries of a book, as a search comes to them: the roots, and each child with the bytes known there
+unfoldable pub nodesOfTries : Book → List Node
+nodesOfTries b = flat (map (nodesIn root []) (every (b .L) (tries b)))
+
+-- it enters a child exactly when some path, of any length, and value beginning with the bytes known there could match, and each root (`ToEnter` of
+-- entries), and n is the number of nodes so entered
+pub record Enters (q : Query) (b : Book) (n : ℕ) : Type 0 where
+  pub entered : Node → Bool
+  pub exactly : All (λ x. (entered x ≡ true) ↔ ToEnter q x) (nodesOfTries b)
+  pub number : n ≡ count entered (nodesOfTries b)
 
 -- reading a level back gives the record of each of its entries, none lost or added
 pub record Reads (i : ℕ) (answer : List ℕ) (b : Book) (r : Result) : Type 0 where
@@ -54,10 +74,10 @@ pub record Reads (i : ℕ) (answer : List ℕ) (b : Book) (r : Result) : Type 0 
 pub record InWords (b : Book) (memory : List ℕ) : Type 0 where
   pub accepted-once : distinct (b .entries) ≡ true
   -- a sound search with enough answer space lists precisely the entries whose path matches and whose value lies in range
-  pub search-lists :
-      {n : ℕ} {q : Query} {answer : List ℕ} {r : Result} {end : List ℕ} → Did memory (search n q answer) r end →
-      need (b .M) (b .L) ≤ n → isFine (patternForm (q .pattern)) ≡ true → q .low ≤ q .high →
-      count (matchesEntry q) (b .entries) * rowSize ≤ length answer → Lists q answer b r
+  pub search-lists : {q : Query} {answer : List ℕ} {r : Result} → SoundSearch b memory q answer r → Lists q answer b r
+  -- THE PRUNING: it enters a branch exactly when some path, of any length, and value beginning with the bytes known there could match, and
+  -- reports the number of nodes so entered
+  pub pruning : {q : Query} {answer : List ℕ} {r : Result} → SoundSearch b memory q answer r → Enters q b (r .reply .second)
   -- "full" is said only with M × 2^L − 1 entries held
   pub full-only :
       {n : ℕ} {e : Entry} {r : Result} {end : List ℕ} → Did memory (add n e) r end → r .reply .number ≡ 9 →

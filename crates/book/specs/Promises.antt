@@ -2,7 +2,7 @@
 -- `refused` and `otherwise` hold on any bytes: the numbers that the checks decide (`suc n` is any number but 0), and else what holds of a
 -- result that is left undecided there. `ours` holds on a store that the calls left: it decides the answer and every byte afterwards.
 -- Setup is decided on any bytes. Assumes nothing: these are definitions.
-use Prim.Native.Nat.{ℕ, suc, _*_, _≤_, _<_}
+use Prim.Native.Nat.{ℕ, suc, _+_, _*_, _≤_, _<_}
 use mathlib.Core.Path.{_≡_}
 use mathlib.Core.Logic.{_⊎_}
 use mathlib.Core.List.{List, []}
@@ -11,7 +11,7 @@ use Rattle.buffer.specs.Splice.{splice}
 use Rattle.rows.specs.Sizes.{rowSize, recordSize}
 use Rattle.rows.specs.Entry.{Entry}
 use Rattle.entries.specs.Query.{Query}
-use Rattle.book.specs.Front.{frontOf, need}
+use Rattle.book.specs.Front.{frontOf, holding, need}
 use Rattle.book.specs.Book.{Book, fresh}
 use Rattle.book.specs.Replies.{Reply, reply, Result, result, setupNumber, addNumber, searchNumber, readNumber}
 use Rattle.book.specs.Calls.{Call, setup, add, search, readLevel}
@@ -24,10 +24,12 @@ pub record SetsUp (m l t : ℕ) (store after : List ℕ) (r : Reply) : Type 0 wh
   pub refused : (n : ℕ) → setupNumber (length store) m l t ≡ suc n → after ≡ store
   pub accepted : setupNumber (length store) m l t ≡ 0 → after ≡ splice store 0 (image (fresh m l t))
 
--- Undecided on bytes that our calls did not leave: whether an addition finds its entry there, and what it writes within the need. It says 0, or
--- 100 and has changed nothing, with the held number that the store then has, and zero
+-- Undecided on bytes that our calls did not leave: whether an addition finds its entry there, and what it writes within the need behind the four
+-- numbers. It says 0, and of these held is one more and the others stay, or 100 and has changed nothing; with the held number that the store
+-- then has, and zero
 pub record Added (store after : List ℕ) (r : Reply) : Type 0 where
-  pub number : (r .number ≡ 0) ⊎ ((r .number ≡ 100) × (after ≡ store))
+  pub number :
+      ((r .number ≡ 0) × (frontOf after ≡ holding (frontOf store .held + 1) (frontOf store))) ⊎ ((r .number ≡ 100) × (after ≡ store))
   pub first : r .first ≡ frontOf after .held
   pub second : r .second ≡ 0
   pub size : length after ≡ length store
@@ -65,12 +67,13 @@ pub record Searches (q : Query) (store answer filled : List ℕ) (r : Reply) : T
       Accepted rowSize answer filled r ⊎ NoRoom rowSize (frontOf store .held) answer filled r
   pub ours : (b : Book) → HoldsBook store b → result r filled ≡ step b (search (length store) q answer) .result
 
--- reading a level back: the store is lent for reading only, and the second value is zero
+-- reading a level back: the store is lent for reading only, and the second value is zero; a level numbered L or above gives no rows on any store
 pub record ReadsLevel (i : ℕ) (store answer filled : List ℕ) (r : Reply) : Type 0 where
   pub refused : (n : ℕ) → readNumber (length store) (frontOf store) ≡ suc n → result r filled ≡ result (reply (suc n) 0 0) answer
   pub otherwise :
       readNumber (length store) (frontOf store) ≡ 0 →
       Accepted recordSize answer filled r ⊎ NoRoom recordSize (frontOf store .held) answer filled r
+  pub above : readNumber (length store) (frontOf store) ≡ 0 → frontOf store .L ≤ i → result r filled ≡ result (reply 0 0 0) answer
   pub second : r .second ≡ 0
   pub ours : (b : Book) → HoldsBook store b → result r filled ≡ step b (readLevel (length store) i answer) .result
 

@@ -7,7 +7,7 @@ use Prim.Native.String.{String}
 use Rattle.buffer.specs.Lists.{flat}
 use Rattle.rows.specs.Sizes.{recordSize}
 use Rattle.rows.specs.Entry.{Entry, row}
-use Rattle.trie_theory.specs.Worked.{text}
+use Rattle.buffer.specs.Text.{text}
 use Rattle.entries.specs.Query.{asked}
 use Rattle.book.specs.Digits.{level, small}
 use Rattle.book.specs.Book.{Book, blank, fresh}

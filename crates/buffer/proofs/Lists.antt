@@ -3,7 +3,7 @@ use Prim.Native.Nat.{ℕ, _-_, _≤_}
 use Rattle.buffer.proofs.Tests.{and-left, and-right, and-both, or-right}
 use mathlib.Core.Path.{_≡_, refl, sym, ap, ap₂, _∙_}
 use mathlib.Core.Bool.{Bool, true, false, cond, _||_, false≢true}
-use mathlib.Core.List.{List, [], _∷_, _++_, map, append-assoc}
+use mathlib.Core.List.{List, [], _∷_, _++_, map, append-assoc, append-nil}
 use native.Mathlib.Omega.{arith}
 use lib.ListN.{length, take, drop, replicate, length-append, length-drop, length-replicate, take-append-drop}
 use lib.Seq.{take-all, take-at, drop-at}
@@ -87,6 +87,17 @@ all-pick {P = P} t (cons {x = x} {xs = xs} h a) = go (t x) refl (all-pick t a)
     go true e r = cons (h, e) r
     go false e r = r
 
+-- tests that agree on all pick the same; a test that all pass picks all
+pub pick-agree : {A : Type 0} (t t′ : A → Bool) {xs : List A} → All (λ x. t x ≡ t′ x) xs → pick t xs ≡ pick t′ xs
+unfolding pick
+pick-agree t t′ nil = refl
+pick-agree {A} t t′ (cons {x = x} {xs = xs} h a) = λ i. cond (h i) (x ∷ pick-agree t t′ a i) (pick-agree t t′ a i)
+
+pub pick-all : {A : Type 0} (t : A → Bool) (xs : List A) → all t xs ≡ true → pick t xs ≡ xs
+unfolding pick
+pick-all t [] h = refl
+pick-all t (x ∷ xs) h = rw (and-left (t x) (all t xs) h) (ap (λ (l : List _). x ∷ l) (pick-all t xs (and-right (t x) (all t xs) h)))
+
 pub pick-append : {A : Type 0} (t : A → Bool) (xs ys : List A) → pick t (xs ++ ys) ≡ pick t xs ++ pick t ys
 unfolding pick
 pick-append t [] ys = refl
@@ -101,10 +112,36 @@ pub map-append : {A B : Type 0} (f : A → B) (xs ys : List A) → map f (xs ++ 
 map-append f [] ys = refl
 map-append f (x ∷ xs) ys = ap (λ (l : List _). f x ∷ l) (map-append f xs ys)
 
+-- functions that agree on all, and the one that changes nothing
+pub map-agree : {A B : Type 0} {f g : A → B} {xs : List A} → All (λ x. f x ≡ g x) xs → map f xs ≡ map g xs
+map-agree nil = refl
+map-agree (cons h a) = ap₂ _∷_ h (map-agree a)
+
+pub map-same : {A : Type 0} (xs : List A) → map (λ x. x) xs ≡ xs
+map-same [] = refl
+map-same (x ∷ xs) = ap (λ (l : List _). x ∷ l) (map-same xs)
+
 pub flat-append : {A : Type 0} (xs ys : List (List A)) → flat (xs ++ ys) ≡ flat xs ++ flat ys
 unfolding flat
 flat-append [] ys = refl
 flat-append (x ∷ xs) ys = ap (λ (l : List _). x ++ l) (flat-append xs ys) ∙ sym (append-assoc x (flat xs) (flat ys))
+
+-- .. of what a function makes of each element: of lists put together, of one element more, and each mapped
+pub flat-map-append : {A B : Type 0} (g : A → List B) (xs ys : List A) → flat (map g (xs ++ ys)) ≡ flat (map g xs) ++ flat (map g ys)
+flat-map-append g xs ys = ap flat (map-append g xs ys) ∙ flat-append (map g xs) (map g ys)
+
+pub flat-map-next : {A B : Type 0} (g : A → List B) (xs : List A) (y : A) → flat (map g (xs ++ (y ∷ []))) ≡ flat (map g xs) ++ g y
+flat-map-next {A} {B} g xs y = flat-map-append g xs (y ∷ []) ∙ ap (λ (l : List B). flat (map g xs) ++ l) (unfold flat in append-nil (g y))
+
+pub map-flat-map : {A B C : Type 0} (h : B → C) (g : A → List B) (xs : List A) → map h (flat (map g xs)) ≡ flat (map (λ x. map h (g x)) xs)
+unfolding flat
+map-flat-map h g [] = refl
+map-flat-map {A} {B} {C} h g (x ∷ xs) = map-append h (g x) (flat (map g xs)) ∙ ap (λ (l : List C). map h (g x) ++ l) (map-flat-map h g xs)
+
+pub all-flat-map : {A B : Type 0} {P : B → Type 0} (g : A → List B) {xs : List A} → All (λ x. All P (g x)) xs → All P (flat (map g xs))
+unfolding flat
+all-flat-map g nil = nil
+all-flat-map g (cons h a) = all-append h (all-flat-map g a)
 
 pub length-padded : (n : ℕ) (bs : List ℕ) → length bs ≤ n → length (padded n bs) ≡ n
 unfolding padded

@@ -131,6 +131,13 @@ module _ (s : List ℕ) (o : ℕ) (b : List ℕ) (fit : o + length b ≤ length 
       rw (splice-is (splice s o b), splice-is (splice s (q + k) a), e1, e2, drop-after s o b fit _ h1, take-before s (q + k) a h o h2) (simp append-assoc)
 
 -- two splices that do not meet, in either sequence
+-- what is written over leaves nothing
+pub splice-under : (s : List ℕ) (p : ℕ) (b : List ℕ) (o : ℕ) (a : List ℕ) → o ≤ p → p + length b ≤ o + length a → o + length a ≤ length s
+    → splice (splice s p b) o a ≡ splice s o a
+splice-under s p b o a h k l =
+    let fit : p + length b ≤ length s = omega arith in
+    rw (splice-is (splice s p b) o a, splice-is s o a, take-before s p b fit o h, drop-after s p b fit (o + length a) k)
+
 pub splice-commute : (s : List ℕ) (o p : ℕ) (b a : List ℕ) → o + length b ≤ p → p + length a ≤ length s
     → splice (splice s o b) p a ≡ splice (splice s p a) o b
 splice-commute s o p b a h k =

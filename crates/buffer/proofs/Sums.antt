@@ -2,14 +2,14 @@
 -- and a number of bytes are sums.
 use Prim.Native.Nat.{ℕ, suc, _+_, _*_, _≤_}
 use mathlib.Core.Path.{_≡_, refl, sym, ap, _∙_}
-use mathlib.Core.Bool.{Bool, true, false, cond, _||_, true≢false}
+use mathlib.Core.Bool.{Bool, true, false, not, cond, _&&_, _||_, true≢false}
 use mathlib.Core.List.{List, [], _∷_, _++_, map}
 use native.Mathlib.Nat.{mul-suc, zero-add}
 use native.Mathlib.Omega.{arith}
 use lib.ListN.{length}
 use lib.Dec.{ltb}
 use borrow.Author.Tests.{lt-ltb}
-use Rattle.buffer.specs.Lists.{All, nil, cons, any, pick, sum, count}
+use Rattle.buffer.specs.Lists.{All, nil, cons, any, pick, sum, count, flat}
 use Rattle.buffer.proofs.Lists.{all-imp}
 
 module _ {A : Type 0} (h : A → ℕ) where
@@ -138,3 +138,63 @@ count-sum t (x ∷ xs) = go (t x) (count-sum t xs)
         → cond b (suc (count t xs)) (count t xs) ≡ cond b 1 0 + sum (λ x. cond (t x) 1 0) xs
     go true e = omega arith
     go false e = omega arith
+
+pub length-pick : {A : Type 0} (t : A → Bool) (xs : List A) → length (pick t xs) ≡ count t xs
+length-pick t xs = sym (sum-one (pick t xs)) ∙ sum-picked (λ x. 1) t xs ∙ sym (count-sum t xs)
+
+pub any-count : {A : Type 0} (t : A → Bool) (xs : List A) → any t xs ≡ ltb 0 (count t xs)
+any-count t xs = any-positive t xs ∙ ap (ltb 0) (sym (count-sum t xs))
+
+pub count-append : {A : Type 0} (t : A → Bool) (xs ys : List A) → count t (xs ++ ys) ≡ count t xs + count t ys
+count-append {A} t xs ys =
+    let h : A → ℕ = λ x. cond (t x) 1 0 in
+    omega (arith, count-sum t (xs ++ ys), sum-append h xs ys, count-sum t xs, count-sum t ys)
+
+pub count-map : {A B : Type 0} (t : B → Bool) (f : A → B) (xs : List A) → count t (map f xs) ≡ count (λ x. t (f x)) xs
+count-map t f xs = count-sum t (map f xs) ∙ sum-map (λ y. cond (t y) 1 0) f xs ∙ sym (count-sum (λ x. t (f x)) xs)
+
+pub count-flat : {A B : Type 0} (t : B → Bool) (g : A → List B) (xs : List A) → count t (flat (map g xs)) ≡ sum (λ x. count t (g x)) xs
+unfolding flat sum count
+count-flat t g [] = refl
+count-flat t g (x ∷ xs) = count-append t (g x) (flat (map g xs)) ∙ ap (λ (n : ℕ). count t (g x) + n) (count-flat t g xs)
+
+pub count-agree : {A : Type 0} (t t′ : A → Bool) {xs : List A} → All (λ x. t x ≡ t′ x) xs → count t xs ≡ count t′ xs
+unfolding count
+count-agree t t′ nil = refl
+count-agree t t′ (cons {x = x} {xs = xs} h a) = λ i. cond (h i) (suc (count-agree t t′ a i)) (count-agree t t′ a i)
+
+pub count-most : {A : Type 0} (t : A → Bool) (xs : List A) → count t xs ≤ length xs
+unfolding count
+count-most t [] = omega arith
+count-most t (x ∷ xs) = go (t x) (count-most t xs)
+  where
+    go : (b : Bool) → count t xs ≤ length xs → cond b (suc (count t xs)) (count t xs) ≤ suc (length xs)
+    go true h = omega arith
+    go false h = omega arith
+
+pub count-picked : {A : Type 0} (p t : A → Bool) (xs : List A) → count p (pick t xs) ≡ count (λ x. t x && p x) xs
+unfolding count pick
+count-picked p t [] = refl
+count-picked p t (x ∷ xs) = go (t x) (p x) refl (count-picked p t xs)
+  where
+    go : (a b : Bool) → p x ≡ b → count p (pick t xs) ≡ count (λ x. t x && p x) xs
+        → count p (cond a (x ∷ pick t xs) (pick t xs)) ≡ cond (a && b) (suc (count (λ x. t x && p x) xs)) (count (λ x. t x && p x) xs)
+    go true true h ih = rw h (ap suc ih)
+    go true false h ih = rw h ih
+    go false b h ih = ih
+
+-- what none fails, all pass
+pub count-none : {A : Type 0} (t : A → Bool) (xs : List A) → count (λ x. not (t x)) xs ≡ 0 → All (λ x. t x ≡ true) xs
+unfolding count
+count-none t [] e = nil
+count-none {A} t (x ∷ xs) e = go (t x) refl e (count-none t xs)
+  where
+    go : (b : Bool) → t x ≡ b → cond (not b) (suc (count (λ x. not (t x)) xs)) (count (λ x. not (t x)) xs) ≡ 0
+        → (count (λ x. not (t x)) xs ≡ 0 → All (λ x. t x ≡ true) xs) → All (λ x. t x ≡ true) (x ∷ xs)
+    go true h e ih = cons h (ih e)
+    go false h e ih = absurd (omega arith)
+
+pub none-count : {A : Type 0} (t : A → Bool) {xs : List A} → All (λ x. t x ≡ true) xs → count (λ x. not (t x)) xs ≡ 0
+unfolding count
+none-count t nil = refl
+none-count t (cons {x = x} {xs = xs} h a) = rw h (none-count t a)

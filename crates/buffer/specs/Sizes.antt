@@ -1,4 +1,4 @@
--- The sizes of what an entry has, which every layer shares, and the block of a move. Assumes nothing: these are definitions.
+-- The sizes of what an entry has, which every layer shares, the block of a move, and the limit of a word. Assumes nothing: these are definitions.
 use Prim.Native.Nat.{ℕ}
 
 -- bytes of a value, and of a reference
@@ -15,3 +15,7 @@ pathLimit = 200
 -- bytes that a move towards the end takes in one step
 abbrev pub moveBlock : ℕ
 moveBlock = 512
+
+-- the first number that has no 64 bits
+abbrev pub wordLimit : ℕ
+wordLimit = 18446744073709551616

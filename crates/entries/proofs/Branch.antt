@@ -48,10 +48,10 @@ number-greatest (suc n) =
     omega (arith, ap (λ (k : ℕ). 256 ^ k) (length-replicate {A = ℕ} n 255), pow-suc 256 n)
 
 -- the least and the greatest of the values that begin with the bytes known
-least : (known : List ℕ) (j : ℕ) → number (known ++ replicate j 0) ≡ number known * 256 ^ j
+pub least : (known : List ℕ) (j : ℕ) → number (known ++ replicate j 0) ≡ number known * 256 ^ j
 least known j = number-append known (replicate j 0) ∙ rw (length-replicate {A = ℕ} j 0, number-zeros j) (omega arith)
 
-greatest : (known : List ℕ) (j : ℕ) → number (known ++ replicate j 255) + 1 ≡ number known * 256 ^ j + 256 ^ j
+pub greatest : (known : List ℕ) (j : ℕ) → number (known ++ replicate j 255) + 1 ≡ number known * 256 ^ j + 256 ^ j
 greatest known j =
     let h = number-greatest j in
     rw (number-append known (replicate j 255), length-replicate {A = ℕ} j 255) (omega arith)

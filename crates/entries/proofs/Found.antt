@@ -1,11 +1,11 @@
 -- What a search of a trie finds: of tries whose values are bytes, exactly the keys that match. Assumes nothing.
 use mathlib.Core.Path.{_≡_, refl, sym, ap, ap₂, _∙_}
 use mathlib.Core.Bool.{Bool, true, false, cond, _&&_}
-use mathlib.Core.List.{List, [], _∷_, _++_, map}
-use Rattle.buffer.specs.Lists.{All, nil, cons, all, pick}
+use mathlib.Core.List.{List, [], _++_, map}
+use Rattle.buffer.specs.Lists.{All, all, pick}
 use Rattle.buffer.specs.Numbers.{byte}
 use Rattle.buffer.proofs.Tests.{and-left, and-right}
-use Rattle.buffer.proofs.Lists.{all-imp, all-left, all-right}
+use Rattle.buffer.proofs.Lists.{all-imp, all-left, all-right, pick-agree}
 use Rattle.trie_theory.specs.Forest.{Strings, Key, Forest, none, leaf, inner, join, under, keys}
 use Rattle.trie_theory.specs.Strings.{at}
 use Rattle.trie_theory.specs.Dimensions.{Above, below}
@@ -14,12 +14,6 @@ use Rattle.trie_theory.proofs.Search.{found-all}
 use Rattle.entries.specs.Query.{Query, reaches, wants}
 use Rattle.entries.proofs.Branch.{never-passed}
 
--- tests that agree on all
-pub pick-agree : {A : Type 0} (m m′ : A → Bool) {xs : List A} → All (λ x. m x ≡ m′ x) xs → pick m xs ≡ pick m′ xs
-unfolding pick
-pick-agree m m′ nil = refl
-pick-agree {A} m m′ (cons {x = x} {xs = xs} h a) = λ i. cond (h i) (x ∷ pick-agree m m′ a i) (pick-agree m m′ a i)
-
 found-agree : (reach : Strings → Bool) (m m′ : Key → Bool) (above : Above) (k : Strings) (f : Forest) → All (λ x. m x ≡ m′ x) (keys k f)
     → found reach m above k f ≡ found reach m′ above k f
 unfolding found keys
@@ -27,9 +21,9 @@ found-agree reach m m′ above k none a = refl
 found-agree reach m m′ above k (leaf s ts more) a =
     let xs = map (under (join k s)) ts in
     ap₂ _++_ (ap (λ (l : List Key). cond (enters reach above k s) l []) (pick-agree m m′ (all-left xs (keys k more) a))) (found-agree reach m m′ above k more (all-right xs (keys k more) a))
-found-agree reach m m′ above k (inner d s kids more) a =
-    let xs = keys (join k s) kids in
-    ap₂ _++_ (ap (λ (l : List Key). cond (enters reach above k s) l []) (found-agree reach m m′ (below d) (join k s) kids (all-left xs (keys k more) a)))
+found-agree reach m m′ above k (inner d s children more) a =
+    let xs = keys (join k s) children in
+    ap₂ _++_ (ap (λ (l : List Key). cond (enters reach above k s) l []) (found-agree reach m m′ (below d) (join k s) children (all-left xs (keys k more) a)))
     (found-agree reach m m′ above k more (all-right xs (keys k more) a))
 
 -- the value of a key is of bytes

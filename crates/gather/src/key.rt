@@ -23,7 +23,7 @@ ghost use Rattle.gather.specs.KeySlots.{endedLimit, hasSlot, keySlot, kn
 ghost use Rattle.gather.specs.Walks.{Entered};
 
 // A path and its end byte.
-const ENDED_LIMIT: usize = PATH_LIMIT + 1;
+pub const ENDED_LIMIT: usize = PATH_LIMIT + 1;
 
 // Writes what the suffix in b[..next] adds, and what is known stays: the buffer is then the slot of the key.
 fn fill(key: &mut [u8], v: usize, p: usize, b: &[u8], path: usize, next: usize)

@@ -2,15 +2,16 @@
 use mathlib.Core.Path.{_≡_, refl, sym, ap₂, _∙_}
 use mathlib.Core.List.{List, [], _∷_}
 use mathlib.Core.Bool.{true, false, cond, _&&_, _||_}
-use Prim.Native.Nat.{ℕ, _-_}
+use Prim.Native.Nat.{ℕ}
 use native.Mathlib.Omega.{arith}
 use lib.ListN.{length, getD}
 use lib.Dec.{eqb, eqb·suc-zero}
 use Rattle.buffer.specs.Lists.{none}
 use Rattle.glob.specs.Bytes.{star}
-use Rattle.glob.specs.Labels.{labelsOf, deep, Begun, Cut}
+use Rattle.glob.specs.Labels.{labelsOf, deep}
 use Rattle.glob.specs.Fit.{fitsLabel}
 use Rattle.glob.specs.Begins.{beginsLabel, beginsLabels}
+use Rattle.glob.specs.Inner.{Begun, Cut}
 use Rattle.glob.proofs.Parts.{rest, split, front, back, no-items, length-back}
 use Rattle.glob.proofs.Cuts.{no-labels, some-labels}
 

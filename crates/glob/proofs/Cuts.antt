@@ -2,20 +2,20 @@
 use mathlib.Core.Path.{_≡_, refl, sym, ap, subst, _∙_}
 use mathlib.Core.List.{List, [], _∷_}
 use mathlib.Core.Bool.{Bool, true, false, cond}
-use Prim.Native.Nat.{ℕ, suc, _+_, _-_, _<_, _≤_}
-use native.Mathlib.Numerals.{add-one}
+use Prim.Native.Nat.{ℕ, suc, _+_, _-_, _*_, _<_, _≤_}
 use native.Mathlib.Omega.{arith}
 use lib.ListN.{length, take, drop, getD, drop-of-length-le}
+use lib.Seq.{drop-drop}
 use lib.Dec.{eqb}
 use borrow.Author.Tests.{eq-eqb, ne-eqb, eqb-true}
 use Rattle.buffer.specs.Lists.{none}
 use Rattle.glob.specs.Bytes.{slash}
-use Rattle.glob.specs.Labels.{upToSlash, labelsOf, deep, Begun, Cut}
+use Rattle.glob.specs.Labels.{upToSlash, labelsOf, deep}
 use Rattle.glob.specs.Fit.{afterSome, first, fitsLabel, fitLabels}
-use Rattle.glob.specs.Inner.{Says}
+use Rattle.glob.specs.Inner.{Says, Begun, Cut}
 use Rattle.glob.specs.declared.fit.Trial.{Trial}
-use Rattle.glob.proofs.Parts.{tail-part, no-items, rest, front, back, step}
-use Rattle.glob.proofs.Trials.{fit-wild, fit-one, Passes, pass-on, first-on, first-off}
+use Rattle.glob.proofs.Parts.{tail-part, no-items, front, back, back-back, length-back, step}
+use Rattle.glob.proofs.Trials.{fit-wild, fit-one, Tried, tried-on, first-on, first-off}
 
 -- what stands up to the next `/`, at an index
 slash-here : (s : List ℕ) (c : ℕ) → c ≡ slash → upToSlash (c ∷ s) ≡ []
@@ -69,20 +69,21 @@ begun-up (c ∷ t) = go (eqb c slash) refl (begun-up t)
     go false e ih f = ih f
 
 -- what stands before the first `/` is of no label
-pub skip-labels : (s : List ℕ) (r : ℕ) → r ≡ length (upToSlash s) → labelsOf (back s r) ≡ labelsOf s
-skip-labels s r h = ap labelsOf (tail-part r s ∙ ap (λ (n : ℕ). drop n s) h) ∙ sym (drop-up s)
+pub skip-labels : (s : List ℕ) (r : ℕ) → r ≡ 0 + length (upToSlash s) → labelsOf (back s r) ≡ labelsOf s
+skip-labels s r h =
+    let e : r ≡ length (upToSlash s) = omega arith in
+    ap labelsOf (tail-part r s ∙ ap (λ (n : ℕ). drop n s) e) ∙ sym (drop-up s)
 
-pub skip-begun : (s : List ℕ) (r : ℕ) → r ≡ length (upToSlash s) → Begun (back s r)
-skip-begun s r h = rw (tail-part r s, h) (begun-up s)
+-- and a label begins where `next_slash` ends
+pub begun-next : (s : List ℕ) (from r : ℕ) → r ≡ from + length (upToSlash (drop from s)) → Begun (back s r)
+begun-next s from r h = rw (tail-part r s, h, ← drop-drop (length (upToSlash (drop from s))) from s) (begun-up (drop from s))
 
-pub cut-law : (s : List ℕ) (r : ℕ) → (length s ≡ 0 → ⊥) → Begun s → r ≡ length (upToSlash (rest s)) → r ≤ length (rest s) → Cut s (r + 1)
+pub cut-law : (s : List ℕ) (r : ℕ) → (length s ≡ 0 → ⊥) → Begun s → r ≡ 1 + length (upToSlash (drop 1 s)) → r ≤ 1 + (length s - 1) → Cut s r
 cut-law [] r f b h l = absurd (f refl)
 cut-law (c ∷ t) r f b h l =
-    let same : take (length (c ∷ t) - 1) t ≡ t = tail-part 1 (c ∷ t) in
-    let h′ : r ≡ length (upToSlash t) = h ∙ ap (λ (u : List ℕ). length (upToSlash u)) same in
-    let l′ : r ≤ length t = rw same at l in
-    let over : take (length (c ∷ t) - (r + 1)) (drop (r + 1) (c ∷ t)) ≡ drop (length (upToSlash t)) t = tail-part (r + 1) (c ∷ t) ∙ rw (add-one r, h′) in
-    let less : r + 1 - 1 ≡ length (upToSlash t) = omega arith in
+    let more : r ≡ suc (length (upToSlash t)) = omega arith in
+    let over : take (length (c ∷ t) - r) (drop r (c ∷ t)) ≡ drop (length (upToSlash t)) t = tail-part r (c ∷ t) ∙ rw more in
+    let less : r - 1 ≡ length (upToSlash t) = omega arith in
     record {
       low = omega arith;
       high = omega arith;
@@ -103,10 +104,21 @@ deep-law p a h e = ap fitLabels (h .labels) ∙ fit-wild deep fitsLabel (front p
 pub one-law : (p : List ℕ) (a : ℕ) → Cut p a → deep (front p a) ≡ false → fitLabels (labelsOf p) ≡ first (fitsLabel (front p a)) (fitLabels (labelsOf (back p a)))
 one-law p a h e = ap fitLabels (h .labels) ∙ fit-one deep fitsLabel (front p a) (labelsOf (back p a)) e
 
--- k does not hold of the labels of t, so the first of them is taken
-pub pass-cut : (k : List (List ℕ) → Bool) (t : List ℕ) (e : ℕ) (ls : List (List ℕ)) → Cut t e → k (labelsOf t) ≡ false → Passes k (labelsOf t) ls → Passes k (labelsOf (back t e)) ls
-pass-cut k t e ls h n y =
-    pass-on k (front t e) (labelsOf (back t e)) ls (subst (λ (l : List (List ℕ)). k l ≡ false) (h .labels) n) (subst (λ (l : List (List ℕ)). Passes k l ls) (h .labels) y)
+-- without their first labels both are shorter
+pub cut-falls : (p s : List ℕ) (a b : ℕ) → Cut p a → Cut s b → 2 * (length (back p a) + length (back s b)) < 2 * (length p + length s)
+cut-falls p s a b h g =
+    let l = length-back p a in
+    let m = length-back s b in
+    omega arith
+
+-- k does not hold of the labels from b on: the first of them, which has e bytes, is taken
+pub tried-cut : (k : List (List ℕ) → Bool) (s : List ℕ) (b e : ℕ) → b ≤ length s → Begun (back s b) → e ≡ 1 + length (upToSlash (drop 1 (back s b))) → e ≤ 1 + (length (back s b) - 1)
+    → k (labelsOf (back s b)) ≡ false → Tried k (length s) b (labelsOf (back s b)) (labelsOf s) → Tried k (length s) (b + e) (labelsOf (back s (b + e))) (labelsOf s)
+tried-cut k s b e l g h m f y =
+    let n = length-back s b in
+    tried-on k (length s) b (b + e) (front (back s b) e) (labelsOf (back s b)) (labelsOf (back s (b + e))) (labelsOf s) l
+    (λ i. cut-law (back s b) e (λ z. omega arith) g h m .labels ∙ ap (λ (t : List ℕ). front (back s b) e ∷ labelsOf t) (back-back s b e))
+    (λ i. ap length (no-labels (back s b) (omega arith))) f y
 
 pub first-cut : (f : List ℕ → Bool) (k : List (List ℕ) → Bool) (s : List ℕ) (b : ℕ) (r : Trial) → Cut s b → f (front s b) ≡ true → Says k (labelsOf (back s b)) r → Says (first f k) (labelsOf s) r
 first-cut f k s b r h e y =

@@ -1,9 +1,9 @@
 -- The laws of `fit`, over any pattern and any items: how a trial of the rest becomes a trial of the whole.
 -- Assumes nothing.
-use mathlib.Core.Path.{_≡_, refl, sym, ap, _∙_}
+use mathlib.Core.Path.{_≡_, refl, sym, ap, subst, _∙_}
 use mathlib.Core.List.{List, [], _∷_}
 use mathlib.Core.Bool.{Bool, true, false, cond, _&&_, _||_}
-use Prim.Native.Nat.{ℕ}
+use Prim.Native.Nat.{ℕ, _<_, _≤_}
 use native.Mathlib.Omega.{arith}
 use lib.ListN.{length, getD}
 use lib.Dec.{eqb}
@@ -48,16 +48,27 @@ module _ {B : Type 0} (k : List B → Bool) where
   abbrev pub Passes : List B → List B → Type 0
   Passes t s = (r : Trial) → Says (afterSome k) t r → Says (afterSome k) s r
 
-  -- k does not hold of t, so one element more is taken
-  pub pass-on : (x : B) (t s : List B) → k (x ∷ t) ≡ false → Passes (x ∷ t) s → Passes t s
+  -- k does not hold of x ∷ t, so x is taken
+  pass-on : (x : B) (t s : List B) → k (x ∷ t) ≡ false → Passes (x ∷ t) s → Passes t s
   pass-on x t s e h = λ r y. h r (wild-on x t r e y)
 
   -- at the end there is nothing more to take
-  pub pass-end : (t s : List B) (r : Trial) → length t ≡ 0 → Passes t s → Says k t r → Says (afterSome k) s r
-  pass-end [] s Fits l h y = h Fits y
-  pass-end [] s Fails l h y = h Fails y
-  pass-end [] s Never l h y = h Never y
-  pass-end (x ∷ t) s r l h y = let z : _≡_ {A = ℕ} 0 1 = cc in absurd (omega arith)
+  end-some : (t : List B) → length t ≡ 0 → k t ≡ false → afterSome k t ≡ false
+  end-some [] l e = e
+  end-some (x ∷ t) l e = let z : _≡_ {A = ℕ} 0 1 = cc in absurd (omega arith)
+
+  -- a wild element has taken what stands before place i of n, t is left, and k failed before: an answer for t is the answer for s, and
+  -- behind n there is none
+  abbrev pub Tried : ℕ → ℕ → List B → List B → Type 0
+  Tried n i t s = (i ≤ n → Passes t s) × (n < i → afterSome k s ≡ false)
+
+  pub tried-none : (n : ℕ) (t s : List B) → t ≡ s → Tried n 0 t s
+  tried-none n t s e = (λ l r y. subst (λ (u : List B). Says (afterSome k) u r) e y, λ l. absurd (omega arith))
+
+  -- k fails of t too: what is left is t without its first element, at place j
+  pub tried-on : (n i j : ℕ) (x : B) (t u s : List B) → i ≤ n → (j ≤ n → t ≡ x ∷ u) → (n < j → length t ≡ 0) → k t ≡ false → Tried n i t s → Tried n j u s
+  tried-on n i j x t u s l h g e y =
+      (λ m. pass-on x u s (subst (λ (v : List B). k v ≡ false) (h m) e) (subst (λ (v : List B). Passes v s) (h m) (y .0 l)), λ m. y .0 l Fails (end-some t (g m) e))
 
   module _ (f : B → Bool) where
     -- where k never holds of the rest, f and k never hold of an element and a rest

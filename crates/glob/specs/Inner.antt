@@ -1,7 +1,11 @@
 -- What the functions below the public ones promise. No public contract cites these.
+use Prim.Native.Nat.{ℕ, _-_, _≤_}
 use mathlib.Core.Path.{_≡_}
-use mathlib.Core.List.{List}
+use mathlib.Core.List.{List, _∷_}
 use mathlib.Core.Bool.{Bool, true, false}
+use lib.ListN.{length, take, drop, getD}
+use Rattle.glob.specs.Bytes.{slash}
+use Rattle.glob.specs.Labels.{labelsOf}
 use Rattle.glob.specs.Fit.{afterSome}
 use Rattle.glob.specs.declared.fit.Trial.{Trial}
 use Rattle.glob.specs.declared.fit.Trial.the-variants.{Fits, Fails, Never}
@@ -16,3 +20,14 @@ abbrev pub isFit : Trial → Bool
 isFit Fits = true
 isFit Fails = false
 isFit Never = false
+
+-- a list that begins with `/`, if it is not empty
+abbrev pub Begun : List ℕ → Type 0
+Begun l = (length l ≡ 0 → ⊥) → getD l 0 0 ≡ slash
+
+-- the first label of s ends at r: s[1..r] is that label, and s[r..] begins with the next, if there is one
+pub record Cut (s : List ℕ) (r : ℕ) : Type 0 where
+  pub low : 1 ≤ r
+  pub high : r ≤ length s
+  pub labels : labelsOf s ≡ take (r - 1) (drop 1 s) ∷ labelsOf (take (length s - r) (drop r s))
+  pub begun : Begun (take (length s - r) (drop r s))

@@ -2,10 +2,11 @@
 use crate::bytes::STAR;
 use crate::fit::label_fits;
 use crate::split::is_deep;
-use crate::split::label_end;
+use crate::split::next_slash;
 ghost use mathlib.Core.Path.{_≡_};
-ghost use Rattle.glob.specs.Labels.{labelsOf, Begun};
+ghost use Rattle.glob.specs.Labels.{labelsOf};
 ghost use Rattle.glob.specs.Begins.{beginsLabel, beginsLabels};
+ghost use Rattle.glob.specs.Inner.{Begun};
 
 // Can a label that begins with k fit a label of a pattern?
 fn label_begins(p: &[u8], k: &[u8]) -> bool
@@ -27,7 +28,7 @@ fn label_begins(p: &[u8], k: &[u8]) -> bool
 }
 
 // Can labels, of which the last may go on, fit the pattern that remains?
-pub fn labels_begin(pattern: &[u8], known: &[u8]) -> bool
+fn labels_begin(pattern: &[u8], known: &[u8]) -> bool
     requires { ⌜ Begun (now pattern) × Begun (now known) ⌝ }
     ensures { λ r. ⌜ r ≡ beginsLabels (labelsOf (now (pattern .entry))) (labelsOf (now (known .entry))) ⌝ }
 {
@@ -37,8 +38,8 @@ pub fn labels_begin(pattern: &[u8], known: &[u8]) -> bool
     if known.len() == 0 {
         return true;
     }
-    let a = label_end(pattern);
-    let b = label_end(known);
+    let a = next_slash(pattern, 1);
+    let b = next_slash(known, 1);
     if is_deep(&pattern[1..a]) {
         return true;
     }
@@ -49,4 +50,14 @@ pub fn labels_begin(pattern: &[u8], known: &[u8]) -> bool
         return labels_begin(&pattern[a..], &known[b..]);
     }
     false
+}
+
+// Can labels, of which the last may go on, fit those of a pattern? Nothing is checked: of any bytes it answers by their labels, which begin at
+// the first `/`.
+pub fn begins_formed(pattern: &[u8], known: &[u8]) -> bool
+    ensures { λ r. ⌜ r ≡ beginsLabels (labelsOf (now (pattern .entry))) (labelsOf (now (known .entry))) ⌝ }
+{
+    let a = next_slash(pattern, 0);
+    let b = next_slash(known, 0);
+    labels_begin(&pattern[a..], &known[b..])
 }

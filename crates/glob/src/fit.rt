@@ -2,12 +2,11 @@
 // An answer `Never` stops the wild element before it from trying again, so the time is at most pattern times path.
 use crate::bytes::STAR;
 use crate::split::is_deep;
-use crate::split::label_end;
-use crate::split::label_len;
+use crate::split::next_slash;
 ghost use mathlib.Core.Path.{_≡_};
-ghost use Rattle.glob.specs.Labels.{labelsOf, Begun};
+ghost use Rattle.glob.specs.Labels.{labelsOf};
 ghost use Rattle.glob.specs.Fit.{afterSome, fitsLabel, fitLabels, fitsPath};
-ghost use Rattle.glob.specs.Inner.{Says, isFit};
+ghost use Rattle.glob.specs.Inner.{Says, isFit, Begun};
 
 // `Never`: it fails now, and also once any of the first bytes (or labels) are taken away.
 pub(crate) enum Trial {
@@ -53,7 +52,7 @@ fn after_star(p: &[u8], s: &[u8]) -> Trial
     ensures { λ r. ⌜ Says (afterSome (fitsLabel (now (p .entry)))) (now (s .entry)) r ⌝ }
 {
     let mut i = 0;
-    while i < s.len() {
+    while i <= s.len() {
         let r = label(p, &s[i..]);
         match r {
             Trial::Fits => return Trial::Fits,
@@ -63,7 +62,7 @@ fn after_star(p: &[u8], s: &[u8]) -> Trial
             }
         }
     }
-    label(p, &s[i..])
+    Trial::Never // `*` has taken all bytes
 }
 
 // Does a label fit a label of a pattern?
@@ -84,14 +83,14 @@ fn labels(pattern: &[u8], path: &[u8]) -> Trial
         }
         return Trial::Fails; // but a `**` before may take more labels
     }
-    let a = label_end(pattern);
+    let a = next_slash(pattern, 1);
     if is_deep(&pattern[1..a]) {
         return descend(&pattern[a..], path);
     }
     if path.len() == 0 {
         return Trial::Never;
     }
-    let b = label_end(path);
+    let b = next_slash(path, 1);
     if !label_fits(&pattern[1..a], &path[1..b]) {
         return Trial::Fails; // but a `**` before may take this label and try the next
     }
@@ -108,8 +107,8 @@ fn descend(pattern: &[u8], path: &[u8]) -> Trial
     ensures { λ r. ⌜ Says (afterSome (fitLabels (labelsOf (now (pattern .entry))))) (labelsOf (now (path .entry))) r ⌝ }
 {
     let mut b = 0;
-    while b < path.len() {
-        let next = b + label_end(&path[b..]);
+    while b <= path.len() {
+        let next = b + next_slash(&path[b..], 1);
         let r = labels(pattern, &path[b..]);
         match r {
             Trial::Fits => return Trial::Fits,
@@ -119,7 +118,7 @@ fn descend(pattern: &[u8], path: &[u8]) -> Trial
             }
         }
     }
-    labels(pattern, &path[b..])
+    Trial::Never // `**` has taken all labels
 }
 
 // Do the labels of a path fit those of a pattern? For callers that have checked both once, as the search: nothing is checked again. Of any
@@ -127,7 +126,7 @@ fn descend(pattern: &[u8], path: &[u8]) -> Trial
 pub fn fits_formed(pattern: &[u8], path: &[u8]) -> bool
     ensures { λ r. ⌜ r ≡ fitsPath (now (pattern .entry)) (now (path .entry)) ⌝ }
 {
-    let a = label_len(pattern);
-    let b = label_len(path);
+    let a = next_slash(pattern, 0);
+    let b = next_slash(path, 0);
     is_fit(labels(&pattern[a..], &path[b..]))
 }

@@ -2,9 +2,9 @@
 use crate::bytes::SLASH;
 use crate::bytes::STAR;
 ghost use mathlib.Core.Path.{_≡_};
-ghost use Prim.Native.Nat.{_≤_};
-ghost use lib.ListN.{length, getD};
-ghost use Rattle.glob.specs.Labels.{upToSlash, labelsOf, deep, Begun, Cut};
+ghost use Prim.Native.Nat.{_+_, _-_, _≤_};
+ghost use lib.ListN.{length, drop, getD};
+ghost use Rattle.glob.specs.Labels.{upToSlash, labelsOf, deep};
 
 // The byte at i, and 0 past the end.
 pub fn byte_at(s: &[u8], i: usize) -> u8
@@ -16,26 +16,18 @@ pub fn byte_at(s: &[u8], i: usize) -> u8
     0
 }
 
-// How many bytes stand before the first `/`?
-pub fn label_len(s: &[u8]) -> usize
-    ensures { λ r. ⌜ (r ≡ length (upToSlash (now (s .entry)))) × (r ≤ length (now (s .entry))) ⌝ }
+// Where is the first `/` from a place on? Where there is none, the end; and a place behind the end is its own answer.
+pub fn next_slash(s: &[u8], from: usize) -> usize
+    ensures { λ r. ⌜ (r ≡ from + length (upToSlash (drop from (now (s .entry))))) × (r ≤ from + (length (now (s .entry)) - from)) ⌝ }
 {
-    let mut i = 0;
+    let mut i = from;
     while i < s.len() {
-        if s[i] == SLASH {
+        if s[i] == SLASH { // the label ends
             return i;
         }
         i += 1;
     }
     i
-}
-
-// Where does the first label end?
-pub fn label_end(s: &[u8]) -> usize
-    requires { ⌜ (length (now s) ≡ 0 → ⊥) × Begun (now s) ⌝ }
-    ensures { λ r. ⌜ Cut (now (s .entry)) r ⌝ }
-{
-    label_len(&s[1..]) + 1
 }
 
 // How many labels are there: how many `/`?

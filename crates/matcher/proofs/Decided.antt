@@ -2,7 +2,7 @@
 use mathlib.Core.Path.{_≡_, refl, sym, ap, ap₂, subst, _∙_}
 use mathlib.Core.List.{List, [], _∷_, _++_, append-assoc, append-nil}
 use mathlib.Core.Bool.{Bool, true, false, not, cond, _&&_}
-use Prim.Native.Nat.{ℕ, suc, _-_, _<_, _≤_}
+use Prim.Native.Nat.{ℕ, suc, _-_, _≤_}
 use native.Mathlib.Omega.{arith}
 use lib.ListN.{length, take, drop-of-length-le}
 use lib.Seq.{split-at}
@@ -10,7 +10,8 @@ use lib.Dec.{eqb}
 use borrow.Author.Tests.{eq-eqb, ne-eqb, eqb-true}
 use Rattle.buffer.specs.Lists.{none, all}
 use Rattle.matcher.specs.Bytes.{slash, star, endByte, labelByte}
-use Rattle.matcher.specs.Labels.{labelsOf, Begun}
+use Rattle.glob.specs.Inner.{Begun}
+use Rattle.matcher.specs.Labels.{labelsOf}
 use Rattle.matcher.specs.Form.{apart, pathLabel, patternLabel, formedPath, formedPattern, pathForm, patternForm, isFine}
 use Rattle.matcher.specs.Fit.{fit, fitLabels, fitsPath}
 use Rattle.matcher.specs.Matches.{matches}
@@ -33,6 +34,11 @@ pattern-some (c ∷ p) e = rw (and-left (eqb c slash) (all patternLabel (labelsO
 pub begins-begun : (known : List ℕ) → beginsPath known ≡ true → Begun known
 begins-begun [] e = λ f. absurd (f refl)
 begins-begun (c ∷ k) e = λ f. eqb-true c slash (and-left (eqb c slash) (apart slash (c ∷ k)) e)
+
+-- one test that fails is enough
+pub mismatched : (a b : Bool) (x : Answer) → b ≡ false → Mismatch ≡ cond (a && b) x Mismatch
+mismatched true b x e = rw e
+mismatched false b x e = refl
 
 -- the bytes known begin a path, and their labels can fit: some path goes on from them and fits
 module _ (pattern known : List ℕ) (P : isFine (patternForm pattern) ≡ true) where

@@ -5,11 +5,10 @@ use mathlib.Core.Bool.{Bool, true, false, cond, _&&_, _||_}
 use Prim.Native.Nat.{ℕ}
 use lib.ListN.{getD}
 use lib.Dec.{eqb}
-use borrow.Author.Tests.{eqb-true}
 use Rattle.buffer.specs.Lists.{all}
 use Rattle.matcher.specs.Bytes.{slash}
-use Rattle.matcher.specs.Labels.{labelsOf, Begun}
-use Rattle.matcher.specs.Form.{pathLabel, patternLabel, labelled, formedPath, formedPattern, tooLong, tooMany, pathForm, patternForm, isFine}
+use Rattle.matcher.specs.Labels.{labelsOf}
+use Rattle.matcher.specs.Form.{labelled, formedPath, formedPattern, tooLong, tooMany, pathForm, patternForm, isFine}
 use Rattle.matcher.specs.Fit.{fitsPath}
 use Rattle.matcher.specs.Matches.{matches}
 use Rattle.matcher.specs.declared.form.Form.the-variants.{Fine, TooLong, Malformed}
@@ -28,18 +27,8 @@ pub fine-pattern : (p : List ℕ) → isFine (patternForm p) ≡ true → formed
 unfolding patternForm
 fine-pattern p e = fine (tooLong p || tooMany p) (formedPattern p) e
 
-module _ (label : List ℕ → Bool) (s : List ℕ) (e : labelled label s ≡ true) where
-  pub labelled-begun : Begun s
-  labelled-begun = λ f. eqb-true (getD s 0 0) slash (and-left (eqb (getD s 0 0) slash) (all label (labelsOf s)) e)
-
-  pub labelled-all : all label (labelsOf s) ≡ true
-  labelled-all = and-right (eqb (getD s 0 0) slash) (all label (labelsOf s)) e
-
-pub pattern-begun : (p : List ℕ) → isFine (patternForm p) ≡ true → Begun p
-pattern-begun p e = labelled-begun patternLabel p (fine-pattern p e)
-
-pub path-begun : (s : List ℕ) → isFine (pathForm s) ≡ true → Begun s
-path-begun s e = labelled-begun pathLabel s (fine-path s e)
+pub labelled-all : (label : List ℕ → Bool) (s : List ℕ) → labelled label s ≡ true → all label (labelsOf s) ≡ true
+labelled-all label s e = and-right (eqb (getD s 0 0) slash) (all label (labelsOf s)) e
 
 -- where both are formed, to match is to fit
 pub matches-fits : (p s : List ℕ) → isFine (patternForm p) ≡ true → isFine (pathForm s) ≡ true → matches p s ≡ fitsPath p s

@@ -8,7 +8,8 @@ use lib.Dec.{eqb}
 use borrow.Author.Tests.{eq-eqb, ne-eqb, eqb-true}
 use Rattle.buffer.specs.Lists.{none, all}
 use Rattle.matcher.specs.Bytes.{slash, endByte, labelByte}
-use Rattle.matcher.specs.Labels.{upToSlash, labelsOf, Begun}
+use Rattle.glob.specs.Inner.{Begun}
+use Rattle.matcher.specs.Labels.{upToSlash, labelsOf}
 use Rattle.matcher.specs.Form.{pathLabel, formedPath}
 use Rattle.buffer.proofs.Tests.{not-both, and-left, and-right}
 use Rattle.matcher.proofs.Goes.{Ext}

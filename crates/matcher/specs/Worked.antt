@@ -4,6 +4,7 @@ use mathlib.Core.Path.{_≡_, refl}
 use mathlib.Core.List.{List, [], _∷_, map}
 use mathlib.Core.Bool.{Bool, true, false}
 use Prim.Native.Nat.{ℕ}
+use Rattle.buffer.specs.Text.{text}
 use Rattle.matcher.specs.Bytes.{labelByte}
 use Rattle.matcher.specs.Form.{pathForm, patternForm}
 use Rattle.matcher.specs.Fit.{fit}
@@ -19,33 +20,31 @@ abbrev pub decided : Case → Bool
 decided (path p s) = matches p s
 decided (known p k) = goesOn (reachOf p k)
 
--- P5: `/**/pond*/*.c` fits `/north/pond3/map.c`
+-- P5: `/**/pond*/*.c` fits `/north/pond3/map.c`. P6: not `/north/pond3/sub/map.c`
 abbrev pub p5 : Case
-p5 = path (47 ∷ 42 ∷ 42 ∷ 47 ∷ 112 ∷ 111 ∷ 110 ∷ 100 ∷ 42 ∷ 47 ∷ 42 ∷ 46 ∷ 99 ∷ []) (47 ∷ 110 ∷ 111 ∷ 114 ∷ 116 ∷ 104 ∷ 47 ∷ 112 ∷ 111 ∷ 110 ∷ 100 ∷ 51 ∷ 47 ∷ 109 ∷ 97 ∷ 112 ∷ 46 ∷ 99 ∷ [])
+p5 = path (text "/**/pond*/*.c") (text "/north/pond3/map.c")
 
--- P6: `/**/pond*/*.c` does not fit `/north/pond3/sub/map.c`
 abbrev pub p6 : Case
-p6 = path (47 ∷ 42 ∷ 42 ∷ 47 ∷ 112 ∷ 111 ∷ 110 ∷ 100 ∷ 42 ∷ 47 ∷ 42 ∷ 46 ∷ 99 ∷ []) (47 ∷ 110 ∷ 111 ∷ 114 ∷ 116 ∷ 104 ∷ 47 ∷ 112 ∷ 111 ∷ 110 ∷ 100 ∷ 51 ∷ 47 ∷ 115 ∷ 117 ∷ 98 ∷ 47 ∷ 109 ∷ 97 ∷ 112 ∷ 46 ∷ 99 ∷ [])
+p6 = path (text "/**/pond*/*.c") (text "/north/pond3/sub/map.c")
 
--- P7: `/a*a` does not fit `/a`
+-- P7: `/a*a` does not fit `/a`. P8: it fits `/aa`
 abbrev pub p7 : Case
-p7 = path (47 ∷ 97 ∷ 42 ∷ 97 ∷ []) (47 ∷ 97 ∷ [])
+p7 = path (text "/a*a") (text "/a")
 
--- P8: `/a*a` fits `/aa`
 abbrev pub p8 : Case
-p8 = path (47 ∷ 97 ∷ 42 ∷ 97 ∷ []) (47 ∷ 97 ∷ 97 ∷ [])
+p8 = path (text "/a*a") (text "/aa")
 
 -- P9: `/north/**` fits `/north`
 abbrev pub p9 : Case
-p9 = path (47 ∷ 110 ∷ 111 ∷ 114 ∷ 116 ∷ 104 ∷ 47 ∷ 42 ∷ 42 ∷ []) (47 ∷ 110 ∷ 111 ∷ 114 ∷ 116 ∷ 104 ∷ [])
+p9 = path (text "/north/**") (text "/north")
 
 -- `/**/a/b` fits `/a/a/b`
 abbrev pub astray : Case
-astray = path (47 ∷ 42 ∷ 42 ∷ 47 ∷ 97 ∷ 47 ∷ 98 ∷ []) (47 ∷ 97 ∷ 47 ∷ 97 ∷ 47 ∷ 98 ∷ [])
+astray = path (text "/**/a/b") (text "/a/a/b")
 
 -- P10: `/gs/` cannot be continued for `/fs/*`
 abbrev pub p10 : Case
-p10 = known (47 ∷ 102 ∷ 115 ∷ 47 ∷ 42 ∷ []) (47 ∷ 103 ∷ 115 ∷ 47 ∷ [])
+p10 = known (text "/fs/*") (text "/gs/")
 
 pub worked : map decided (p5 ∷ p6 ∷ p7 ∷ p8 ∷ p9 ∷ astray ∷ p10 ∷ []) ≡ true ∷ false ∷ false ∷ true ∷ true ∷ true ∷ false ∷ []
 unfolding labelByte fit pathForm patternForm matches reachOf

@@ -1,7 +1,7 @@
 // The bytes with a meaning of their own, the sizes, and the bytes of a label.
 use crate::marks::LABEL_BYTES;
 ghost use mathlib.Core.Path.{_≡_};
-ghost use Rattle.matcher.specs.Bytes.{labelByte};
+ghost use Rattle.matcher.specs.Bytes.{labelByte, labelMarks};
 
 // `/` begins a label, `*` and `**` are wild, and END follows a path inside the index.
 pub use glob::bytes::SLASH;
@@ -15,9 +15,18 @@ pub use buffer::sizes::PATH_LIMIT;
 // The most labels of a pattern.
 pub const PATTERN_LABEL_LIMIT: usize = 32;
 
+// The same by the table lent: the compiler writes a constant array out wherever one is named, so a loop over bytes does that once.
+pub(crate) fn marked(marks: &[u8; 256], b: u8) -> bool
+    requires { ⌜ now marks ≡ labelMarks ⌝ }
+    ensures { λ r. ⌜ r ≡ labelByte b ⌝ }
+{
+    marks[b as usize] == 1
+}
+
 // May a label of a path hold this byte? Callers know only the range rule, not the table.
 pub fn label_byte(b: u8) -> bool
     ensures { λ r. ⌜ r ≡ labelByte b ⌝ }
 {
-    LABEL_BYTES[b as usize] == 1
+    let marks = LABEL_BYTES;
+    marked(&marks, b)
 }

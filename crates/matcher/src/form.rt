@@ -3,17 +3,19 @@ use crate::bytes::PATH_LIMIT;
 use crate::bytes::PATTERN_LABEL_LIMIT;
 use crate::bytes::SLASH;
 use crate::bytes::STAR;
-use crate::bytes::label_byte;
+use crate::bytes::marked;
+use crate::marks::LABEL_BYTES;
 use glob::split::byte_at;
 use glob::split::is_deep;
 use glob::split::label_count;
-use glob::split::label_end;
+use glob::split::next_slash;
 ghost use mathlib.Core.Path.{_≡_};
 ghost use mathlib.Core.Bool.{not, cond};
 ghost use lib.Dec.{eqb};
 ghost use Rattle.buffer.specs.Lists.{all};
-ghost use Rattle.matcher.specs.Bytes.{labelByte};
-ghost use Rattle.matcher.specs.Labels.{labelsOf, Begun};
+ghost use Rattle.matcher.specs.Bytes.{labelByte, labelMarks};
+ghost use Rattle.glob.specs.Inner.{Begun};
+ghost use Rattle.matcher.specs.Labels.{labelsOf};
 ghost use Rattle.matcher.specs.Form.{apart, patternLabel, formedPath, formedPattern, pathForm, patternForm, isFine, pathNumber, patternNumber};
 ghost use Rattle.matcher.specs.Reach.{beginsPath};
 
@@ -57,22 +59,24 @@ pub fn pattern_number(f: Form) -> u64
 }
 
 // May c stand before next, where only label bytes and single marks may?
-fn may_stand(c: u8, next: u8, mark: u8) -> bool
+fn may_stand(marks: &[u8; 256], c: u8, next: u8, mark: u8) -> bool
+    requires { ⌜ now marks ≡ labelMarks ⌝ }
     ensures { λ r. ⌜ r ≡ cond (eqb c mark) (not (eqb next mark)) (labelByte c) ⌝ }
 {
     if c == mark {
         return next != mark;
     }
-    label_byte(c)
+    marked(marks, c)
 }
 
 // Are these label bytes and marks, of which no two stand together?
 fn are_apart(s: &[u8], mark: u8) -> bool
     ensures { λ r. ⌜ r ≡ apart mark (now (s .entry)) ⌝ }
 {
+    let marks = LABEL_BYTES;
     let mut i = 0;
     while i < s.len() {
-        if !may_stand(s[i], byte_at(s, i + 1), mark) {
+        if !may_stand(&marks, s[i], byte_at(s, i + 1), mark) {
             return false;
         }
         i += 1;
@@ -141,7 +145,7 @@ fn are_pattern_labels(pattern: &[u8]) -> bool
     if pattern.len() == 0 {
         return true;
     }
-    let a = label_end(pattern);
+    let a = next_slash(pattern, 1);
     if is_pattern_label(&pattern[1..a]) {
         return are_pattern_labels(&pattern[a..]);
     }

@@ -4,9 +4,8 @@ use crate::form::begins_path;
 use crate::form::check_pattern;
 use crate::form::is_fine;
 use crate::form::is_path;
-use glob::begin::labels_begin;
+use glob::begin::begins_formed;
 use glob::fit::fits_formed;
-use glob::split::label_len;
 ghost use mathlib.Core.Path.{_≡_};
 ghost use mathlib.Core.Bool.{true};
 ghost use Rattle.matcher.specs.Form.{patternForm, isFine};
@@ -19,31 +18,30 @@ pub enum Answer {
     Incomplete,
 }
 
-// The path is known whole.
+// The path is known whole. Most paths fail at the first label: that is tested before their form.
 fn reach_whole(pattern: &[u8], path: &[u8]) -> Answer
     ensures { λ r. ⌜ r ≡ reachWhole (now (pattern .entry)) (now (path .entry)) ⌝ }
 {
-    if !is_path(path) {
-        return Answer::Mismatch;
+    if !fits_formed(pattern, path) {
+        return Answer::Mismatch; // it does not fit
     }
-    if fits_formed(pattern, path) {
+    if is_path(path) {
         return Answer::Match;
     }
-    Answer::Mismatch
+    Answer::Mismatch // it is no path
 }
 
 // The path goes on.
 fn reach_open(pattern: &[u8], known: &[u8]) -> Answer
     ensures { λ r. ⌜ r ≡ reachOpen (now (pattern .entry)) (now (known .entry)) ⌝ }
 {
-    if !begins_path(known) {
-        return Answer::Mismatch;
+    if !begins_formed(pattern, known) {
+        return Answer::Mismatch; // however it goes on
     }
-    let a = label_len(pattern);
-    if labels_begin(&pattern[a..], known) {
+    if begins_path(known) {
         return Answer::Incomplete;
     }
-    Answer::Mismatch // however the path goes on
+    Answer::Mismatch // no path begins so
 }
 
 // The answer without a check of the pattern: for the search, which checks its pattern once and then asks at every child. For a pattern that

@@ -4,9 +4,9 @@
 pub use store::reply::Reply;
 ghost use mathlib.Core.Path.{_≡_};
 ghost use Rattle.matcher.specs.Matches.{matches};
+ghost use Rattle.rows.specs.Entry.{entry};
 ghost use Rattle.book.specs.Promises.{SetsUp, Adds, Searches, ReadsLevel};
 ghost use Rattle.search.specs.Asked.{asked};
-ghost use Rattle.store_overflow.specs.Steps.{entry};
 ghost use Rattle.store.specs.Said.{said};
 
 // Sets a store up for M, L and τ.

@@ -7,8 +7,8 @@ use mathlib.Core.List.{List, [], _∷_, _++_, append-assoc, append-nil, map}
 use native.Mathlib.Omega.{arith}
 use lib.ListN.{length}
 use borrow.Author.Tests.{eq-eqb}
-use Rattle.buffer.specs.Lists.{All, nil, cons, pick, flat}
-use Rattle.buffer.proofs.Lists.{all-head, all-tail, all-imp, all-both, all-append, all-map, all-pick, pick-append, map-append}
+use Rattle.buffer.specs.Lists.{All, nil, pick, flat}
+use Rattle.buffer.proofs.Lists.{all-head, all-tail, all-imp, all-both, all-append, all-map, all-pick, pick-append, map-append, map-agree}
 use Rattle.buffer.proofs.Tests.{not-true}
 use Rattle.trie_theory.specs.Forest.{Strings, Key, Forest, none, leaf, inner, join, under, keys, tops}
 use Rattle.trie_theory.specs.Strings.{begins, goesOn}
@@ -82,10 +82,6 @@ way-step n way k amount kind steps x =
     let z : n + suc (length steps) ≡ n + 1 + length steps = omega arith in
     ap₂ (λ (i : ℕ) (w : List ℕ). keyRecord i w x) z (sym (append-assoc way (nodeOf k kind) (flat (map stepBytes steps))))
 
-pub map-all : {A B : Type 0} {f g : A → B} {xs : List A} → All (λ x. f x ≡ g x) xs → map f xs ≡ map g xs
-map-all nil = refl
-map-all (cons h a) = ap₂ _∷_ h (map-all a)
-
 module _ (n : ℕ) (way : List ℕ) (k s : Strings) (more : Forest) where
   leaf-on : (ts : List Key) (x : Key) → From (join k s) x → wayRecord n way (walk k (leaf s ts more) x) x ≡ keyRecord (n + 1) (way ++ nodeOf (join k s) 0) x
   unfolding walk
@@ -112,8 +108,8 @@ module _ (n : ℕ) (way : List ℕ) (k s : Strings) (more : Forest) where
 two-picked : (g : Key → List ℕ) (a b : Key → List ℕ) (xs ys : List Key) → All (λ x. g x ≡ a x) xs → All (λ x. g x ≡ b x) ys
     → map a (pick hasSlot xs) ++ map b (pick hasSlot ys) ≡ map g (pick hasSlot (xs ++ ys))
 two-picked g a b xs ys p q =
-    let e : map g (pick hasSlot xs) ≡ map a (pick hasSlot xs) = map-all (all-imp (λ x h. h .0) (all-pick hasSlot p)) in
-    let f : map g (pick hasSlot ys) ≡ map b (pick hasSlot ys) = map-all (all-imp (λ x h. h .0) (all-pick hasSlot q)) in
+    let e : map g (pick hasSlot xs) ≡ map a (pick hasSlot xs) = map-agree (all-imp (λ x h. h .0) (all-pick hasSlot p)) in
+    let f : map g (pick hasSlot ys) ≡ map b (pick hasSlot ys) = map-agree (all-imp (λ x h. h .0) (all-pick hasSlot q)) in
     ap₂ _++_ (sym e) (sym f) ∙ sym (map-append g (pick hasSlot xs) (pick hasSlot ys)) ∙ ap (map g) (sym (pick-append hasSlot xs ys))
 
 pub records-walk : (above : Above) (n : ℕ) (way : List ℕ) (k : Strings) (f : Forest) → length k ≡ 2 → Sound 2 above f

@@ -1,15 +1,13 @@
 -- What the walk of a whole trie writes: the records of its keys. Assumes nothing.
 use Prim.Native.Nat.{ℕ, zero, suc, _+_, _≤_}
 use mathlib.Core.Path.{_≡_, refl, sym, ap, _∙_}
-use mathlib.Core.Bool.{true}
 use mathlib.Core.List.{List, [], _∷_, map}
 use native.Mathlib.Omega.{arith}
 use lib.ListN.{length, take}
-use Rattle.buffer.specs.Lists.{all, pick, flat}
+use Rattle.buffer.specs.Lists.{pick, flat}
 use Rattle.buffer.specs.Splice.{splice}
-use Rattle.buffer.proofs.Lists.{all-every}
+use Rattle.buffer.proofs.Lists.{all-every, map-agree, map-same, pick-all}
 use Rattle.buffer.proofs.Splice.{splice-nil}
-use Rattle.buffer.proofs.Tests.{and-left, and-right}
 use Rattle.trie_theory.specs.Forest.{Strings, Key, Forest, keys}
 use Rattle.trie_theory.specs.Dimensions.{root}
 use Rattle.trie_theory.specs.Walk.{Step, walk}
@@ -21,24 +19,15 @@ use Rattle.gather.proofs.Gathering.{known-nothing}
 use Rattle.gather.proofs.Splitting.{keys-root}
 use Rattle.read_back.specs.Readings.{recordBytes, trieRecord, TrieBytes, TrieRead}
 use Rattle.read_back.specs.Walks.{Written, keyRecord, recordsBelow, BodyRecords}
-use Rattle.read_back.proofs.Ways.{map-all, wayRecord, records-walk, walk-root}
+use Rattle.read_back.proofs.Ways.{wayRecord, records-walk, walk-root}
 
 joined-flat : (rs : List (List ℕ)) → joined (λ x. x) rs ≡ flat rs
 unfolding joined
-joined-flat rs = ap flat (same rs)
-  where
-    same : (rs : List (List ℕ)) → map (λ x. x) rs ≡ rs
-    same [] = refl
-    same (r ∷ rs) = ap (λ (l : List (List ℕ)). r ∷ l) (same rs)
+joined-flat rs = ap flat (map-same rs)
 
 none-joined : (m : ℕ) → joined (λ (x : List ℕ). x) (take m []) ≡ []
 none-joined zero = joined-none (λ x. x)
 none-joined (suc m) = joined-none (λ x. x)
-
-pick-all : (xs : List Key) → all hasSlot xs ≡ true → pick hasSlot xs ≡ xs
-unfolding pick
-pick-all [] h = refl
-pick-all (x ∷ xs) h = rw (and-left (hasSlot x) (all hasSlot xs) h) (ap (λ (l : List Key). x ∷ l) (pick-all xs (and-right (hasSlot x) (all hasSlot xs) h)))
 
 -- below no node the record has the nodes of the key's walk
 whole-way : (f : Forest) (x : Key) → wayRecord 0 [] (walk [] f x) x ≡ trieRecord f x
@@ -48,8 +37,8 @@ whole-way f x = let z : 0 + length (walk [] f x) ≡ length (walk [] f x) = omeg
 whole : (f : Forest) {t : List ℕ} → TrieBytes t f → recordsBelow 0 [] ([] ∷ [] ∷ []) f ≡ map (trieRecord f) (keys [] f)
 whole f b =
     records-walk root 0 [] ([] ∷ [] ∷ []) f refl (b .sound)
-    ∙ ap (map (λ x. wayRecord 0 [] (walk ([] ∷ [] ∷ []) f x) x)) (ap (pick hasSlot) (keys-root f (b .regular)) ∙ pick-all (keys [] f) (b .slots))
-    ∙ map-all (all-every (keys [] f) (λ x. ap (λ (l : List Step). wayRecord 0 [] l x) (walk-root f x (b .regular)) ∙ whole-way f x))
+    ∙ ap (map (λ x. wayRecord 0 [] (walk ([] ∷ [] ∷ []) f x) x)) (ap (pick hasSlot) (keys-root f (b .regular)) ∙ pick-all hasSlot (keys [] f) (b .slots))
+    ∙ map-agree (all-every (keys [] f) (λ x. ap (λ (l : List Step). wayRecord 0 [] l x) (walk-root f x (b .regular)) ∙ whole-way f x))
 
 pub trie-read : {t : List ℕ} {room : ℕ} {s k s' k' : List ℕ} {r : ℕ} → Written (BodyRecords 1 0 [] (known 0 0 k) t) 0 0 room 0 s k s' k' r
     → r ≤ 0 + length t → TrieRead t room s s' r

@@ -4,6 +4,7 @@ use mathlib.Core.Path.{_≡_}
 use mathlib.Core.Bool.{Bool, true}
 use mathlib.Core.List.{List, [], _++_, map}
 use lib.ListN.{length, take}
+use Rattle.buffer.specs.Sizes.{wordLimit}
 use Rattle.buffer.specs.Lists.{pick}
 use Rattle.rows.specs.Sizes.{valueSize, nodeLimit, recordSize}
 use Rattle.trie_read.specs.Sizes.{headSize}
@@ -64,7 +65,7 @@ pub record Descended (v p : ℕ) (t : List ℕ) (path body n kind : ℕ) (k w k'
 -- what the walk asks for: room for as many records in the answer, a counter that does not overflow, the two buffers
 pub record Ready (t k w s : List ℕ) (v p n room rows : ℕ) : Type 0 where
   pub fits : room * recordSize ≤ length s
-  pub few : rows + length t < 18446744073709551616
+  pub few : rows + length t < wordLimit
   pub buffer : length k ≡ slotSize
   pub way : length w ≡ waySize
   pub value : v ≤ valueSize

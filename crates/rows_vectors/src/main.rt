@@ -135,21 +135,28 @@ fn print_case(s: &[u8], end: usize, width: usize)
     print_text(b"\n");
 }
 
-// Sorts n records that stand behind three bytes and before one.
-fn sort_case(s: &mut [u8], n: usize, width: usize)
+// Fills the lent bytes with n records behind three bytes and before one, sorts them and prints all.
+fn sort_in(s: &mut [u8], n: usize, width: usize)
     requires { ⌜ (rowSize ≤ width) × (4 + n * width ≤ length (now s)) ⌝ }
 {
-    print_text(b"sort ");
-    print_number(n as u64);
-    print_text(b" of ");
-    print_number(width as u64);
-    print_text(b"\n");
     let end = 3 + n * width;
     fill(s, 3, end, width, 1);
     buffer::moves::copy_from(s, 0, &[1, 2, 3]);
     buffer::moves::copy_from(s, end, &[4]);
     rows::sort::sort(s, 3, n, width);
     print_case(s, end, width);
+}
+
+fn sort_case(n: usize, width: usize)
+    requires { ⌜ (rowSize ≤ width) × (4 + n * width ≤ 229004) ⌝ }
+{
+    print_text(b"sort ");
+    print_number(n as u64);
+    print_text(b" of ");
+    print_number(width as u64);
+    print_text(b"\n");
+    let mut s = [0u8; 4 + 1000 * ROW_SIZE];
+    sort_in(&mut s, n, width);
 }
 
 // Compares the rows of two entries.
@@ -182,12 +189,11 @@ fn main() {
     compare_case(1, b"/z", 9, 256, b"/a", 0);
     compare_case(5, b"/a", 2, 5, b"/a", 1);
     compare_case(5, b"/a", 2, 5, b"/a", 2);
-    let mut s = [0u8; 4 + 1000 * ROW_SIZE];
-    sort_case(&mut s, 0, ROW_SIZE);
-    sort_case(&mut s, 1, ROW_SIZE);
-    sort_case(&mut s, 2, ROW_SIZE);
-    sort_case(&mut s, 3, ROW_SIZE);
-    sort_case(&mut s, 100, ROW_SIZE);
-    sort_case(&mut s, 1000, ROW_SIZE);
-    sort_case(&mut s, 100, RECORD_SIZE);
+    sort_case(0, ROW_SIZE);
+    sort_case(1, ROW_SIZE);
+    sort_case(2, ROW_SIZE);
+    sort_case(3, ROW_SIZE);
+    sort_case(100, ROW_SIZE);
+    sort_case(1000, ROW_SIZE);
+    sort_case(100, RECORD_SIZE);
 }

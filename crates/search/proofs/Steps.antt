@@ -1,15 +1,15 @@
 -- The steps of a search. Assumes nothing.
-use mathlib.Core.Path.{_≡_, refl, sym, ap, _∙_}
-use mathlib.Core.Bool.{Bool, true, false, cond, _&&_}
+use mathlib.Core.Path.{_≡_, refl, sym, ap, ap₂, _∙_}
+use mathlib.Core.Bool.{Bool, true, false, cond, _&&_, and-true}
 use Prim.Native.Nat.{ℕ, zero, suc, _+_, _-_, _≤_}
-use mathlib.Core.List.{List, [], _∷_, _++_}
+use mathlib.Core.List.{List, [], _∷_, _++_, append-nil}
 use native.Mathlib.Omega.{arith}
-use lib.ListN.{length, take, drop, length-append, length-drop}
+use lib.ListN.{length, take, drop}
 use lib.Dec.{eqb, leb, ltb}
-use lib.Seq.{take-add, drop-at, drop-drop, length-take-le}
-use borrow.Author.Tests.{eq-eqb, ne-eqb, lt-ltb, leb-true}
-use Rattle.buffer.specs.Splice.{region}
-use Rattle.buffer.proofs.Splice.{region-drop, length-region}
+use lib.Seq.{take-take}
+use borrow.Author.Tests.{eq-eqb, ne-eqb, ltb-true, ltb-false, leb-true}
+use Rattle.buffer.specs.Splice.{splice, region}
+use Rattle.buffer.proofs.Splice.{region-drop, region-add, region-before, region-at, take-before}
 use Rattle.matcher.specs.Reach.{reachOf, goesOn}
 use Rattle.matcher.specs.declared.reach.Answer.{Answer}
 use Rattle.matcher.specs.declared.reach.Answer.the-variants.{Match, Mismatch, Incomplete}
@@ -21,12 +21,13 @@ use Rattle.entries.specs.Slots.{slotSize}
 use Rattle.entries.specs.Query.{Query, valueReach, reaches, wants, isMatch}
 use Rattle.gather.specs.KeySlots.{endedLimit, hasSlot, keySlot, known, suffixKey}
 use Rattle.gather.specs.Walks.{Entered}
-use Rattle.gather.proofs.Filling.{slotted, slot-value, slot-path, slot-kept}
-use Rattle.gather.proofs.Stepping.{entered-room}
+use Rattle.gather.proofs.Filling.{known-same, unfilled, slot-kept}
 use Rattle.trie_read.specs.Shape.{part}
 use Rattle.trie_read.proofs.Stretch.{length-part}
-use Rattle.buffer.proofs.Tests.{not-both, and-left, and-right}
-use Rattle.search.specs.Steps.{both, rootKind, over, takes, Descended, Taken}
+use Rattle.buffer.proofs.Tests.{not-both, and-left, and-right, and-both, and-false}
+use Rattle.search.specs.Spans.{Spans}
+use Rattle.search.specs.declared.step.Common.{Common}
+use Rattle.search.specs.Steps.{both, rootKind, over, takes, InCommon, Descended, Taken}
 
 -- ---- both dimensions
 
@@ -44,113 +45,112 @@ both-match Incomplete Mismatch = refl
 both-match Incomplete Match = refl
 both-match Incomplete Incomplete = refl
 
--- what an answer of both says of the known bytes
-pub reaches-known : (q : Query) (a b : ℕ) (key : List ℕ) (r : Answer) → r ≡ both (valueReach q (take a key)) (reachOf (q .pattern) (region key pathAt b))
-    → goesOn r ≡ reaches q (known a b key)
-unfolding reaches known
-reaches-known q a b key r e = ap goesOn e ∙ both-goes (valueReach q (take a key)) (reachOf (q .pattern) (region key pathAt b))
-
-pub matches-known : (q : Query) (n : ℕ) (key : List ℕ) (r : Answer) → r ≡ both (valueReach q (take valueSize key)) (reachOf (q .pattern) (region key pathAt n))
-    → isMatch r ≡ isMatch (valueReach q (take valueSize key)) && isMatch (reachOf (q .pattern) (region key pathAt n))
-matches-known q n key r e = ap isMatch e ∙ both-match (valueReach q (take valueSize key)) (reachOf (q .pattern) (region key pathAt n))
-
 -- ---- the branching byte
 
--- known bytes with the first of n more
-first-more : (l : List ℕ) (n : ℕ) (k : List ℕ) (ks ss : Strings) → n ≤ length l → branch 0 (k ∷ ks) (take n l ∷ ss) ≡ cond (ltb 0 n) (k ++ take 1 l) k ∷ ks
+-- in the value, and in the path
+branch-value : (k s : List ℕ) (ks ss : Strings) → branch 0 (k ∷ ks) (s ∷ ss) ≡ (k ++ take 1 s) ∷ ks
 unfolding branch
-first-more l zero k ks ss g = refl
-first-more [] (suc n) k ks ss g = absurd (omega arith)
-first-more (x ∷ l) (suc n) k ks ss g = rw (lt-ltb 0 (suc n) (omega arith))
+branch-value k [] ks ss = ap (λ (x : List ℕ). x ∷ ks) (sym (append-nil k))
+branch-value k (b ∷ s) ks ss = refl
 
-more-taken : (b : Bool) (v : ℕ) (l : List ℕ) → cond b (take v l ++ take 1 (drop v l)) (take v l) ≡ take (cond b (v + 1) v) l
-more-taken true v l = sym (take-add v 1 l)
-more-taken false v l = refl
-
-one-more : (l : List ℕ) (v n : ℕ) (ks ss : Strings) → v + n ≤ length l
-    → branch 0 (take v l ∷ ks) (take n (drop v l) ∷ ss) ≡ take (cond (ltb 0 n) (v + 1) v) l ∷ ks
-one-more l v n ks ss h =
-    let room : n ≤ length (drop v l) = rw length-drop (omega arith) in
-    first-more (drop v l) n (take v l) ks ss room ∙ ap (λ (x : List ℕ). x ∷ ks) (more-taken (ltb 0 n) v l)
-
-branch-later : (d : ℕ) (k s : List ℕ) (ks ss : Strings) → branch (suc d) (k ∷ ks) (s ∷ ss) ≡ k ∷ branch d ks ss
+branch-path : (k l s t : List ℕ) → branch 1 (k ∷ l ∷ []) (s ∷ t ∷ []) ≡ k ∷ (l ++ take 1 t) ∷ []
 unfolding branch
-branch-later d k s ks ss = refl
+branch-path k l s [] = ap (λ (x : List ℕ). k ∷ x ∷ []) (sym (append-nil l))
+branch-path k l s (b ∷ t) = refl
 
 -- there is no third dimension
 branch-others : (d : ℕ) (k l s t : List ℕ) → branch (suc (suc d)) (k ∷ l ∷ []) (s ∷ t ∷ []) ≡ k ∷ l ∷ []
 unfolding branch
 branch-others d k l s t = refl
 
-module _ (v p nv np : ℕ) (key : List ℕ) (long : length key ≡ slotSize) (value : v + nv ≤ valueSize) (path : p + np ≤ endedLimit) where
-  abbrev strings : Strings
-  strings = region key v nv ∷ region key (pathAt + p) np ∷ []
+-- the branching byte of t[path..body]
+first-part : (b : Bool) (t : List ℕ) (path body : ℕ) → ltb path body ≡ b → path ≤ body → part path (cond b (path + 1) path) t ≡ take 1 (part path body t)
+first-part true t path body e h =
+    let l = ltb-true path body e in
+    let z : path + 1 - path ≡ 1 = omega arith in
+    rw z (sym (take-take 1 (body - path) (drop path t) (omega arith)))
+first-part false t path body e h =
+    let l = ltb-false path body e in
+    let z : path - path ≡ 0 = omega arith in
+    let y : body - path ≡ 0 = omega arith in
+    rw (z, y)
 
-  branched : (d : ℕ) → branch d (known v p key) strings
-      ≡ known (cond (eqb (suc d) 1 && ltb 0 nv) (v + 1) v) (cond (eqb (suc d) 2 && ltb 0 np) (p + 1) p) key
-  unfolding known
-  branched zero = one-more key v nv (region key pathAt p ∷ []) (region key (pathAt + p) np ∷ []) (omega arith)
-  branched (suc zero) =
-      let room : p + np ≤ length (drop pathAt key) = rw length-drop (omega arith) in
-      let q : branch 0 (region key pathAt p ∷ []) (region key (pathAt + p) np ∷ []) ≡ take (cond (ltb 0 np) (p + 1) p) (drop pathAt key) ∷ [] =
-      rw (← drop-drop p pathAt key) (one-more (drop pathAt key) p np [] [] room) in
-      branch-later 0 (take v key) (region key v nv) (region key pathAt p ∷ []) (region key (pathAt + p) np ∷ []) ∙ ap (λ (x : Strings). take v key ∷ x) q
-  branched (suc (suc d)) =
-      rw (ne-eqb (suc (suc (suc d))) 1 (λ e. omega arith), ne-eqb (suc (suc (suc d))) 2 (λ e. omega arith))
-      (branch-others d (take v key) (region key pathAt p) (region key v nv) (region key (pathAt + p) np))
+-- a node that branches in the path, and one that branches in neither dimension
+module _ (q : Query) (v p : ℕ) (k a b s : List ℕ) where
+  enters-second : s ≡ take 1 b → goesOn (valueReach q (take v k)) && goesOn (reachOf (q .pattern) (region k pathAt p ++ s)) ≡ enters (reaches q) (over 2) (known v p k) (a ∷ b ∷ [])
+  unfolding over enters reaches known
+  enters-second e = rw e (ap (reaches q) (sym (branch-path (take v k) (region k pathAt p) a b)))
 
+  enters-others : (d : ℕ) → (suc (suc (suc d)) ≡ rootKind → ⊥) → s ≡ []
+      → goesOn (valueReach q (take v k)) && goesOn (reachOf (q .pattern) (region k pathAt p ++ s)) ≡ enters (reaches q) (over (suc (suc (suc d)))) (known v p k) (a ∷ b ∷ [])
+  unfolding over enters reaches known
+  enters-others d r e =
+      let n : suc (suc (suc d)) - 1 ≡ suc (suc d) = omega arith in
+      rw (ne-eqb (suc (suc (suc d))) rootKind r, n, e, append-nil (region k pathAt p)) (ap (reaches q) (sym (branch-others d (take v k) (region k pathAt p) a b)))
+
+no-part : (t : List ℕ) (path : ℕ) → part path path t ≡ []
+no-part t path = let z : path - path ≡ 0 = omega arith in rw z
+
+module _ (q : Query) (kind v p : ℕ) (k a : List ℕ) where
   -- a search enters the root, and a child where the bytes known at its parent with the branching byte added can be continued
-  pub enters-root : (q : Query) (kind : ℕ) → kind ≡ rootKind → true ≡ enters (reaches q) (over kind) (known v p key) strings
+  pub enters-root : (b : List ℕ) → kind ≡ rootKind → true ≡ enters (reaches q) (over kind) (known v p k) (a ∷ b ∷ [])
   unfolding over enters
-  enters-root q kind e = rw (eq-eqb kind rootKind e)
+  enters-root b e = rw (eq-eqb kind rootKind e)
 
-  pub enters-child : (q : Query) (kind : ℕ) → (kind ≡ 0 → ⊥) → (kind ≡ rootKind → ⊥)
-      → reaches q (known (cond (eqb kind 1 && ltb 0 nv) (v + 1) v) (cond (eqb kind 2 && ltb 0 np) (p + 1) p) key) ≡ enters (reaches q) (over kind) (known v p key) strings
-  unfolding over enters
-  enters-child q zero z e = absurd (z refl)
-  enters-child q (suc d) z e =
-      let n : suc d - 1 ≡ d = omega arith in
-      rw (ne-eqb (suc d) rootKind e, n) (ap (reaches q) (sym (branched d)))
+  pub enters-value : (b : List ℕ) → kind ≡ 1
+      → goesOn (valueReach q (take v k ++ take 1 a)) && goesOn (reachOf (q .pattern) (region k pathAt p)) ≡ enters (reaches q) (over kind) (known v p k) (a ∷ b ∷ [])
+  unfolding over enters reaches known
+  enters-value b e = rw e (ap (reaches q) (sym (branch-value (take v k) a (region k pathAt p ∷ []) (b ∷ []))))
+
+  pub enters-path : (t : List ℕ) (path body end : ℕ) → (kind ≡ 0 → ⊥) → (kind ≡ 1 → ⊥) → (kind ≡ rootKind → ⊥) → path ≤ body
+      → end ≡ cond (eqb kind 2 && ltb path body) (path + 1) path
+      → goesOn (valueReach q (take v k)) && goesOn (reachOf (q .pattern) (region k pathAt p ++ part path end t))
+      ≡ enters (reaches q) (over kind) (known v p k) (a ∷ part path body t ∷ [])
+  enters-path t path body end = go kind
+    where
+      go : (n : ℕ) → (n ≡ 0 → ⊥) → (n ≡ 1 → ⊥) → (n ≡ rootKind → ⊥) → path ≤ body → end ≡ cond (eqb n 2 && ltb path body) (path + 1) path
+          → goesOn (valueReach q (take v k)) && goesOn (reachOf (q .pattern) (region k pathAt p ++ part path end t))
+          ≡ enters (reaches q) (over n) (known v p k) (a ∷ part path body t ∷ [])
+      go zero z o r h e = absurd (z refl)
+      go (suc zero) z o r h e = absurd (o refl)
+      go (suc (suc zero)) z o r h e = enters-second q v p k a (part path body t) (part path end t) (ap (λ (i : ℕ). part path i t) e ∙ first-part (ltb path body) t path body refl h)
+      go (suc (suc (suc d))) z o r h e = enters-others q v p k a (part path body t) (part path end t) d r
+          (ap (λ (i : ℕ). part path i t) (rw (ne-eqb (suc (suc (suc d))) 2 (λ y. omega arith)) at e) ∙ no-part t path)
 
 -- ---- the step to a node
 
--- what is known behind known bytes
-module _ (k k' a b : List ℕ) (v p nv np : ℕ) (long : length k ≡ slotSize) (long' : length k' ≡ slotSize) (value : v + nv ≤ valueSize) (path : p + np ≤ endedLimit)
-    (e : known (v + nv) (p + np) k' ≡ join (known v p k) (a ∷ b ∷ [])) where
-  taken : (take (v + nv) k' ≡ take v k ++ a) × (take (p + np) (drop pathAt k') ≡ region k pathAt p ++ b)
-  unfolding known join
-  taken =
-      let l : take (v + nv) k' ≡ take v k ++ a = cc in
-      let r : take (p + np) (drop pathAt k') ≡ region k pathAt p ++ b = cc in
-      (l, r)
+-- the buffer with more of the path behind the known bytes
+module _ (k k' s : List ℕ) (p : ℕ) (long : length k ≡ slotSize) (room : p + length s ≤ endedLimit + 1) (e : k' ≡ splice k (pathAt + p) s) where
+  pub path-more : take (pathAt + p + length s - pathAt) (drop pathAt k') ≡ region k pathAt p ++ s
+  path-more =
+      let z : pathAt + p + length s - pathAt ≡ p + length s = omega arith in
+      let fit : pathAt + p + length s ≤ length k = omega arith in
+      rw (z, e)
+      (region-add (splice k (pathAt + p) s) pathAt p (length s)
+      ∙ ap₂ _++_ (region-before k (pathAt + p) s fit pathAt p (omega arith)) (region-at k (pathAt + p) s fit))
 
-  pub value-behind : region k' v nv ≡ a
-  value-behind = region-drop k' v nv (omega arith) ∙ ap (drop v) (taken .0) ∙ drop-at (take v k) a v (length-take-le v k (omega arith))
+  pub front-kept : take (pathAt + p) k' ≡ take (pathAt + p) k
+  front-kept = rw e (take-before k (pathAt + p) s (omega arith) (pathAt + p) (omega arith))
 
-  pub path-behind : region k' (pathAt + p) np ≡ b
-  path-behind =
-      let room : p ≤ length (drop pathAt k') = rw length-drop (omega arith) in
-      ap (take np) (sym (drop-drop p pathAt k'))
-      ∙ region-drop (drop pathAt k') p np room
-      ∙ ap (drop p) (taken .1)
-      ∙ drop-at (region k pathAt p) b p (length-region k pathAt p (omega arith))
+-- where the bytes up to the end of the known path stay, what is known stays
+pub known-front : (v p : ℕ) (k k' : List ℕ) → length k ≡ slotSize → length k' ≡ slotSize → v ≤ valueSize → take (pathAt + p) k' ≡ take (pathAt + p) k → known v p k' ≡ known v p k
+known-front v p k k' long long' h e =
+    known-same v p k' k
+    (sym (take-take v (pathAt + p) k' (omega arith)) ∙ ap (take v) e ∙ take-take v (pathAt + p) k (omega arith))
+    (region-drop k' pathAt p (omega arith) ∙ ap (drop pathAt) e ∙ sym (region-drop k pathAt p (omega arith)))
 
-pub descended : {q : Query} {kind v p path body : ℕ} {t k k' : List ℕ} {b : Bool} → Entered v p t path body k k' true
-    → length k ≡ slotSize → length k' ≡ slotSize → path ≤ body → body ≤ length t
-    → b ≡ enters (reaches q) (over kind) (known v p k') (region k' v (path - 7) ∷ region k' (pathAt + p) (body - path) ∷ [])
-    → Descended q kind v p t path body k k' b
-descended {q} {kind} {v} {p} {path} {body} {t} {k} {k'} e long long' order inside is =
-    let room = entered-room e refl in
-    let x = value-behind k k' (part 7 path t) (part path body t) v p (path - 7) (body - path) long long' (room .0) (room .1) (e .joins refl) in
-    let y = path-behind k k' (part 7 path t) (part path body t) v p (path - 7) (body - path) long long' (room .0) (room .1) (e .joins refl) in
-    record {
-      is = rw (← e .is) (is ∙ rw (e .kept, x, y));
-      joins = λ z. e .joins refl;
-      kept = e .kept;
-    }
+module _ {q : Query} {kind v p path body : ℕ} {t k k₁ : List ℕ} (kept : known v p k₁ ≡ known v p k) where
+  pub descended : {k' : List ℕ} {r : Bool} → Entered v p t path body k₁ k' r
+      → true ≡ enters (reaches q) (over kind) (known v p k) (part 7 path t ∷ part path body t ∷ []) → Descended q kind v p t path body k k' r
+  descended e y =
+      record {
+        is = e .is ∙ rw (← y) (sym (and-true (leb (v + (path - 7)) valueSize && leb (p + (body - path)) endedLimit)));
+        joins = λ z. e .joins z ∙ ap (λ (x : Strings). join x (part 7 path t ∷ part path body t ∷ [])) kept;
+        kept = e .kept ∙ kept;
+      }
 
-pub not-descended : {q : Query} {kind v p path body : ℕ} {t k k' : List ℕ} → Entered v p t path body k k' false → Descended q kind v p t path body k k' false
-not-descended e = record { is = rw (← e .is); joins = λ z. not-both z refl; kept = e .kept }
+  pub not-descended : false ≡ enters (reaches q) (over kind) (known v p k) (part 7 path t ∷ part path body t ∷ []) → Descended q kind v p t path body k k₁ false
+  not-descended y = record { is = sym (and-false (leb (v + (path - 7)) valueSize && leb (p + (body - path)) endedLimit) _ (sym y)); joins = λ z. not-both z refl; kept = kept }
 
 -- a node that a search goes down to has room
 pub descended-room : {q : Query} {kind v p path body : ℕ} {t k k' : List ℕ} {r : Bool} → Descended q kind v p t path body k k' r → r ≡ true
@@ -168,30 +168,62 @@ module _ (q : Query) (v p : ℕ) (b : List ℕ) (path next : ℕ) (k : List ℕ)
   abbrev x : Key
   x = suffixKey (known v p k) b path next
 
-  length-ended : length (at 1 (x .strings)) ≡ p + (next - path)
-  unfolding under join known
-  length-ended =
-      omega (arith, length-append (region k pathAt p) (part path next b), length-region k pathAt p (omega arith), length-part b path next inside)
+  -- the test of both dimensions
+  wants-both : isMatch (valueReach q (take v k ++ part 22 path b)) && isMatch (reachOf (q .pattern) (region k pathAt p ++ part path next b)) ≡ wants q x
+  unfolding wants under join known
+  wants-both = refl
 
-  pub taken-short : hasSlot x ≡ true → p + (next - path) ≤ endedLimit
-  taken-short h = omega (arith, length-ended, slotted x h .short)
+  pub wants-told : (a : Answer) (r : Bool) → a ≡ valueReach q (take v k ++ part 22 path b)
+      → r ≡ isMatch a && isMatch (reachOf (q .pattern) (region k pathAt p ++ part path next b)) → wants q x ≡ r
+  wants-told a r e f = sym wants-both ∙ ap (λ (z : Answer). isMatch z && isMatch (reachOf (q .pattern) (region k pathAt p ++ part path next b))) (sym e) ∙ sym f
 
-  -- the slot tells whether its key matches
-  matching : hasSlot x ≡ true → isMatch (valueReach q (take valueSize (keySlot x))) && isMatch (reachOf (q .pattern) (region (keySlot x) pathAt (p + (next - path)))) ≡ wants q x
-  unfolding wants
-  matching h = rw (← length-ended, slot-value x h, slot-path x h)
-
-  pub taken-slot : (k' : List ℕ) (r : Bool) → hasSlot x ≡ true → k' ≡ keySlot x
-      → r ≡ isMatch (valueReach q (take valueSize k')) && isMatch (reachOf (q .pattern) (region k' pathAt (p + (next - path))))
-      → Taken q v p b path next k k' r
+  taken-not : {k' : List ℕ} → hasSlot x && wants q x ≡ false → known v p k' ≡ known v p k → Taken q v p b path next k k' false
   unfolding takes
-  taken-slot k' r h e m =
-      record {
-        is = rw h (m ∙ rw e (matching h));
-        slot = λ y. e;
-        kept = ap (known v p) e ∙ slot-kept k (part 22 path b) (part path next b) (part 2 22 b) v p long value ended h;
-      }
+  taken-not h e = record { is = sym h; slot = λ y. not-both y refl; kept = e }
 
-  pub taken-none : (k' : List ℕ) → hasSlot x ≡ false → k' ≡ k → Taken q v p b path next k k' false
-  unfolding takes
-  taken-none k' h e = record { is = rw h; slot = λ y. not-both y refl; kept = ap (known v p) e }
+  -- there is no slot for so many bytes
+  pub taken-none : (v + (path - 22) ≡ valueSize → p + (next - path) ≤ endedLimit → ⊥) → Taken q v p b path next k k false
+  taken-none h =
+      taken-not
+      (ap (λ (y : Bool). y && wants q x)
+      (unfilled k (part 22 path b) (part path next b) (part 2 22 b) v p long value ended
+      (λ e l m. h (omega (arith, e, length-part b 22 path (omega arith))) (omega (arith, m, length-part b path next inside)))))
+      refl
+
+  module _ (k₁ : List ℕ) (same : known v p k₁ ≡ known v p k) where
+    -- it does not match
+    pub taken-out : wants q x ≡ false → Taken q v p b path next k k₁ false
+    taken-out h = taken-not (and-false (hasSlot x) (wants q x) h) same
+
+    -- it matches, and has a slot or not
+    taken-in : {k' : List ℕ} → wants q x ≡ true → hasSlot x ≡ true → k' ≡ keySlot x → Taken q v p b path next k k' true
+    unfolding takes
+    taken-in w h e =
+        record {
+          is = sym (and-both h w);
+          slot = λ y. e;
+          kept = ap (known v p) e ∙ slot-kept k (part 22 path b) (part path next b) (part 2 22 b) v p long value ended h;
+        }
+
+    pub taken-slot : (k' : List ℕ) (r : Bool) → wants q x ≡ true → r ≡ hasSlot (suffixKey (known v p k₁) b path next)
+        → k' ≡ cond r (keySlot (suffixKey (known v p k₁) b path next)) k₁ → Taken q v p b path next k k' r
+    taken-slot k' r w h e =
+        let y : suffixKey (known v p k₁) b path next ≡ x = ap (λ (z : Strings). suffixKey z b path next) same in
+        slotted-or r k' w (h ∙ ap hasSlot y) (e ∙ ap (λ (z : Key). cond r (keySlot z) k₁) y)
+      where
+        slotted-or : (r : Bool) (k' : List ℕ) → wants q x ≡ true → r ≡ hasSlot x → k' ≡ cond r (keySlot x) k₁ → Taken q v p b path next k k' r
+        slotted-or true k' w h e = taken-in w (sym h) e
+        slotted-or false k' w h e = taken-not (rw (← h)) (ap (known v p) e ∙ same)
+
+-- ---- what was asked once holds as long as what is known stays
+
+pub common-kept : {q : Query} {kind v p : ℕ} {k k' : List ℕ} {r : Common} → InCommon q kind v p k r → known v p k' ≡ known v p k → InCommon q kind v p k' r
+unfolding known
+common-kept {v = v} {p} {k} {k'} c e =
+    let a : take v k' ≡ take v k = cc in
+    let b : region k' pathAt p ≡ region k pathAt p = cc in
+    record { bytes = λ o l. rw a (c .bytes o l); other = rw (a, b) (c .other) }
+
+pub span-kept : {q : Query} {n from to : ℕ} (v p : ℕ) (k k' : List ℕ) → Spans q (take v k) n from to → known v p k' ≡ known v p k → Spans q (take v k') n from to
+unfolding known
+span-kept v p k k' s e = let a : take v k' ≡ take v k = cc in rw a s

@@ -1,3 +1,4 @@
 pub mod Asked
+pub mod Spans
 pub mod Steps
 pub mod Searches

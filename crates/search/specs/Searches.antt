@@ -4,6 +4,7 @@ use mathlib.Core.Path.{_≡_}
 use mathlib.Core.Bool.{true}
 use mathlib.Core.List.{List, [], _++_, map}
 use lib.ListN.{length, take}
+use Rattle.buffer.specs.Sizes.{wordLimit}
 use Rattle.buffer.specs.Lists.{all, All, pick}
 use Rattle.buffer.specs.Splice.{splice}
 use Rattle.matcher.specs.Form.{patternForm, isFine}
@@ -94,8 +95,8 @@ pub record BodyFound (q : Query) (kind depth : ℕ) (k : Strings) (t : List ℕ)
 pub record Ready (pattern t k s : List ℕ) (v p room rows nodes : ℕ) : Type 0 where
   pub formed : isFine (patternForm pattern) ≡ true
   pub fits : room * rowSize ≤ length s
-  pub fewRows : rows + length t < 18446744073709551616
-  pub fewNodes : nodes + length t < 18446744073709551616
+  pub fewRows : rows + length t < wordLimit
+  pub fewNodes : nodes + length t < wordLimit
   pub buffer : length k ≡ slotSize
   pub value : v ≤ valueSize
   pub path : p ≤ endedLimit

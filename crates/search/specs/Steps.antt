@@ -1,19 +1,24 @@
 -- The steps of a search: how it goes down to a node, and which keys it takes. Assumes nothing: these are definitions.
-use Prim.Native.Nat.{ℕ, _+_, _-_}
+use Prim.Native.Nat.{ℕ, _+_, _-_, _<_}
 use mathlib.Core.Path.{_≡_}
 use mathlib.Core.Bool.{Bool, true, cond, _&&_}
 use mathlib.Core.List.{List, [], _∷_}
 use lib.Dec.{eqb, leb}
+use lib.ListN.{take}
+use Rattle.buffer.specs.Splice.{region}
+use Rattle.matcher.specs.Reach.{reachOf}
 use Rattle.matcher.specs.declared.reach.Answer.{Answer}
 use Rattle.matcher.specs.declared.reach.Answer.the-variants.{Match, Mismatch, Incomplete}
-use Rattle.rows.specs.Sizes.{valueSize}
+use Rattle.rows.specs.Sizes.{valueSize, pathAt}
 use Rattle.trie_theory.specs.Forest.{Key, join}
 use Rattle.trie_theory.specs.Dimensions.{Above, root, below}
 use Rattle.trie_theory.specs.Search.{enters}
-use Rattle.entries.specs.Query.{Query, reaches, wants}
+use Rattle.entries.specs.Query.{Query, valueReach, reaches, wants}
 use Rattle.trie_read.specs.Sizes.{headSize}
 use Rattle.trie_read.specs.Shape.{part}
 use Rattle.gather.specs.KeySlots.{endedLimit, hasSlot, keySlot, known, suffixKey}
+use Rattle.search.specs.Spans.{Spans}
+use Rattle.search.specs.declared.step.Common.{Common}
 unfoldable pub use Rattle.gather.specs.KeySlots.{keyRow}
 
 -- the answer of both dimensions together
@@ -35,6 +40,12 @@ over kind = cond (eqb kind rootKind) root (below (kind - 1))
 -- a search takes the keys that match; on bytes that are no sound trie's, of those that have a slot
 unfoldable pub takes : Query → Key → Bool
 takes q x = hasSlot x && wants q x
+
+-- What a search asks once for all children of a node of a kind: the branching bytes with which a value in range goes on, where the node branches in the
+-- value, and the answer of the dimension in which it does not branch
+pub record InCommon (q : Query) (kind v p : ℕ) (k : List ℕ) (r : Common) : Type 0 where
+  pub bytes : kind ≡ 1 → v < valueSize → Spans q (take v k) 1 (r .from) (r .to)
+  pub other : r .other ≡ cond (eqb kind 1) (reachOf (q .pattern) (region k pathAt p)) (valueReach q (take v k))
 
 -- The step to a node of the bytes t, whose strings are t[headSize..path] and t[path..body]: its strings have room behind the known bytes, and a search enters it
 pub record Descended (q : Query) (kind v p : ℕ) (t : List ℕ) (path body : ℕ) (k k' : List ℕ) (r : Bool) : Type 0 where

@@ -1,5 +1,11 @@
-// The steps of a search. The key buffer of a walk (crate gather) has the known bytes.
+// The steps of a search. The key buffer of a walk (crate gather) has the known bytes. What is the same for all children of a node, or for all suffixes
+// of a leaf, is asked once; of a child or a suffix the value is asked first, and its bytes are copied only where they are needed.
+use crate::value::Span;
+use crate::value::span_behind;
 use crate::value::value_reach;
+use crate::value::value_with;
+use buffer::moves::copy_from;
+use gather::key::ENDED_LIMIT;
 use gather::key::compose;
 use gather::key::enter;
 use matcher::reach::Answer;
@@ -7,26 +13,34 @@ use matcher::reach::reach_formed;
 use rows::sizes::PATH_AT;
 use rows::sizes::VALUE_SIZE;
 use trie_read::sizes::HEAD_SIZE;
+use trie_read::sizes::SUFFIX_SIZE;
 ghost use mathlib.Core.Path.{_≡_};
 ghost use mathlib.Core.Bool.{true, cond, _&&_};
-ghost use Prim.Native.Nat.{_+_, _-_, _≤_};
-ghost use mathlib.Core.List.{[], _∷_};
+ghost use Prim.Native.Nat.{ℕ, _+_, _-_, _≤_, _<_};
+ghost use mathlib.Core.List.{List, [], _∷_, _++_};
 ghost use lib.ListN.{length, take};
 ghost use lib.Dec.{eqb, ltb};
-ghost use Rattle.buffer.specs.Splice.{region};
+ghost use Rattle.buffer.specs.Splice.{region, splice};
 ghost use Rattle.matcher.specs.Form.{patternForm, isFine};
-ghost use Rattle.matcher.specs.Reach.{reachOf};
+ghost use Rattle.matcher.specs.Reach.{reachOf, goesOn};
 ghost use Rattle.rows.specs.Sizes.{valueSize, pathAt};
 ghost use Rattle.trie_theory.specs.Search.{enters};
 ghost use Rattle.trie_read.specs.Sizes.{headSize, suffixSize};
+ghost use Rattle.trie_read.specs.Shape.{part};
 ghost use Rattle.entries.specs.Slots.{slotSize};
 ghost use Rattle.entries.specs.Query.{valueReach, reaches, isMatch};
 ghost use Rattle.gather.specs.KeySlots.{endedLimit, known};
 ghost use Rattle.search.specs.Asked.{asked};
-ghost use Rattle.search.specs.Steps.{both, over, Descended, Taken};
+ghost use Rattle.search.specs.Spans.{Spans};
+ghost use Rattle.search.specs.Steps.{both, over, InCommon, Descended, Taken};
 
 // Stands for the kind of a node where there is none above. No byte is that.
 pub const ROOT: usize = 256;
+
+// The kinds of a node that branches in the value, and of one that branches in the path.
+const VALUE_KIND: usize = 1;
+
+const PATH_KIND: usize = 2;
 
 // The answer of both dimensions together.
 fn both(value: Answer, path: Answer) -> Answer
@@ -43,27 +57,11 @@ fn both(value: Answer, path: Answer) -> Answer
     }
 }
 
-// The answer about a bytes of the value and b of the path that the key buffer has.
-fn ask(pattern: &[u8], low: u64, high: u64, key: &[u8], a: usize, b: usize) -> Answer
-    requires { ⌜ isFine (patternForm (now pattern)) ≡ true ⌝ }
-    requires { ⌜ (length (now key) ≡ slotSize) × (a ≤ valueSize + 1) × (b ≤ endedLimit + 1) ⌝ }
-    ensures { λ r.
-        ⌜ r ≡ both (valueReach (asked (now (pattern .entry)) low high) (take a (now (key .entry)))) (reachOf (now (pattern .entry)) (region (now (key .entry)) pathAt b)) ⌝ }
+// Can known bytes be continued, by the answers of both dimensions?
+fn goes_on(value: Answer, path: Answer) -> bool
+    ensures { λ r. ⌜ r ≡ goesOn value && goesOn path ⌝ }
 {
-    let end = PATH_AT + b;
-    both(
-        value_reach(low, high, &key[0..a]),
-        reach_formed(pattern, &key[PATH_AT..end]),
-    )
-}
-
-// Can these bytes be continued to a path that matches and a value in range?
-fn goes_on(pattern: &[u8], low: u64, high: u64, key: &[u8], a: usize, b: usize) -> bool
-    requires { ⌜ isFine (patternForm (now pattern)) ≡ true ⌝ }
-    requires { ⌜ (length (now key) ≡ slotSize) × (a ≤ valueSize + 1) × (b ≤ endedLimit + 1) ⌝ }
-    ensures { λ r. ⌜ r ≡ reaches (asked (now (pattern .entry)) low high) (known a b (now (key .entry))) ⌝ }
-{
-    let answer = ask(pattern, low, high, key, a, b);
+    let answer = both(value, path);
     match answer {
         Answer::Mismatch => false,
         Answer::Match => true,
@@ -71,14 +69,11 @@ fn goes_on(pattern: &[u8], low: u64, high: u64, key: &[u8], a: usize, b: usize) 
     }
 }
 
-// Is the key whose slot the buffer is, with n bytes of path, a match in both dimensions?
-fn matches_key(pattern: &[u8], low: u64, high: u64, key: &[u8], n: usize) -> bool
-    requires { ⌜ isFine (patternForm (now pattern)) ≡ true ⌝ }
-    requires { ⌜ (length (now key) ≡ slotSize) × (n ≤ endedLimit) ⌝ }
-    ensures { λ r.
-        ⌜ r ≡ isMatch (valueReach (asked (now (pattern .entry)) low high) (take valueSize (now (key .entry)))) && isMatch (reachOf (now (pattern .entry)) (region (now (key .entry)) pathAt n)) ⌝ }
+// Does a whole key match, by the answers of both dimensions?
+fn matches_both(value: Answer, path: Answer) -> bool
+    ensures { λ r. ⌜ r ≡ isMatch value && isMatch path ⌝ }
 {
-    let answer = ask(pattern, low, high, key, VALUE_SIZE, n);
+    let answer = both(value, path);
     match answer {
         Answer::Match => true,
         Answer::Mismatch => false,
@@ -86,21 +81,27 @@ fn matches_key(pattern: &[u8], low: u64, high: u64, key: &[u8], n: usize) -> boo
     }
 }
 
-// How many bytes are known in a dimension with the branching byte added: a node of the kind `own` branches there.
-fn one_more(kind: usize, own: usize, known: usize, length: usize) -> usize
-    requires { ⌜ known ≤ endedLimit ⌝ }
-    ensures { λ r. ⌜ (r ≡ cond (eqb kind own && ltb 0 length) (known + 1) known) × (r ≤ known + 1) ⌝ }
-{
-    if kind == own {
-        if length > 0 {
-            return known + 1;
-        }
-    }
-    known
+// What is asked once for all children of a node: which branching bytes of the value lead into the range, from..to, where it branches there, and the
+// answer of the dimension in which it does not branch.
+pub(crate) struct Common {
+    pub(crate) from: u64,
+    pub(crate) to: u64,
+    pub(crate) other: Answer,
 }
 
-// Does a search enter a node, which has nv and np bytes behind those known at its parent, a node of a kind?
-fn admits(
+// Which branching bytes of the value lead into the range?
+fn branches(low: u64, high: u64, known: &[u8]) -> Span
+    ensures { λ r.
+        ⌜ ((pattern : List ℕ) → length (now (known .entry)) < valueSize → Spans (asked pattern low high) (now (known .entry)) 1 (r .from) (r .to)) ⌝ }
+{
+    if known.len() < VALUE_SIZE {
+        return span_behind(low, high, known, 1);
+    }
+    Span { from: 1, to: 0 }
+}
+
+// Asks it at a node of a kind.
+pub(crate) fn ask_once(
     kind: usize,
     pattern: &[u8],
     low: u64,
@@ -108,23 +109,137 @@ fn admits(
     key: &[u8],
     v: usize,
     p: usize,
-    nv: usize,
-    np: usize,
+) -> Common
+    requires { ⌜ isFine (patternForm (now pattern)) ≡ true ⌝ }
+    requires { ⌜ (length (now key) ≡ slotSize) × (v ≤ valueSize) × (p ≤ endedLimit) ⌝ }
+    ensures { λ r. ⌜ InCommon (asked (now (pattern .entry)) low high) kind v p (now (key .entry)) r ⌝ }
+{
+    if kind == VALUE_KIND {
+        let bytes = branches(low, high, &key[0..v]);
+        let end = PATH_AT + p;
+        let other = reach_formed(pattern, &key[PATH_AT..end]);
+        return Common {
+            from: bytes.from,
+            to: bytes.to,
+            other,
+        };
+    }
+    let other = value_reach(low, high, &key[0..v]);
+    Common {
+        from: 1,
+        to: 0,
+        other,
+    }
+}
+
+// The answer for the value with the first byte of s added, if there is one: from..to are the bytes that lead into the range.
+fn value_more(low: u64, high: u64, known: &[u8], from: u64, to: u64, s: &[u8]) -> Answer
+    requires { ⌜ length (now known) ≤ valueSize ⌝ }
+    ensures { λ r.
+        ⌜ ((pattern : List ℕ) → (length (now (known .entry)) < valueSize → Spans (asked pattern low high) (now (known .entry)) 1 from to) → r ≡ valueReach (asked pattern low high) (now (known .entry) ++ take 1 (now (s .entry)))) ⌝ }
+{
+    if s.len() == 0 {
+        return value_reach(low, high, known);
+    }
+    if known.len() < VALUE_SIZE {
+        return value_with(from, to, known.len(), &s[0..1]);
+    }
+    Answer::Mismatch
+}
+
+// The answer for the path with the bytes s added, which are written behind those known.
+fn path_with(pattern: &[u8], key: &mut [u8], p: usize, s: &[u8]) -> Answer
+    requires { ⌜ isFine (patternForm (now pattern)) ≡ true ⌝ }
+    requires { ⌜ (length (now key) ≡ slotSize) × (p + length (now s) ≤ endedLimit + 1) ⌝ }
+    ensures { λ r. ⌜ r ≡ reachOf (now (pattern .entry)) (region (now (key .entry)) pathAt p ++ now (s .entry)) ⌝ }
+    ensures { λ _. ⌜ now (key .exit) ≡ splice (now (key .entry)) (pathAt + p) (now (s .entry)) ⌝ }
+{
+    let at = PATH_AT + p;
+    copy_from(key, at, s);
+    let end = at + s.len();
+    reach_formed(pattern, &key[PATH_AT..end])
+}
+
+// Can known bytes be continued where the value is answered and the path has the bytes s more?
+fn path_goes_on(value: Answer, pattern: &[u8], key: &mut [u8], p: usize, s: &[u8]) -> bool
+    requires { ⌜ isFine (patternForm (now pattern)) ≡ true ⌝ }
+    requires { ⌜ (length (now key) ≡ slotSize) × (p + length (now s) ≤ endedLimit + 1) ⌝ }
+    ensures { λ r. ⌜ r ≡ goesOn value && goesOn (reachOf (now (pattern .entry)) (region (now (key .entry)) pathAt p ++ now (s .entry))) ⌝ }
+    ensures { λ _. ⌜ take (pathAt + p) (now (key .exit)) ≡ take (pathAt + p) (now (key .entry)) ⌝ }
+{
+    match value {
+        Answer::Mismatch => false,
+        _ => goes_on(value, path_with(pattern, key, p, s)),
+    }
+}
+
+// Does a key match whose value is answered and whose path has the bytes s more?
+fn path_matches(value: Answer, pattern: &[u8], key: &mut [u8], p: usize, s: &[u8]) -> bool
+    requires { ⌜ isFine (patternForm (now pattern)) ≡ true ⌝ }
+    requires { ⌜ (length (now key) ≡ slotSize) × (p + length (now s) ≤ endedLimit + 1) ⌝ }
+    ensures { λ r. ⌜ r ≡ isMatch value && isMatch (reachOf (now (pattern .entry)) (region (now (key .entry)) pathAt p ++ now (s .entry))) ⌝ }
+    ensures { λ _. ⌜ take (pathAt + p) (now (key .exit)) ≡ take (pathAt + p) (now (key .entry)) ⌝ }
+{
+    match value {
+        Answer::Mismatch => false,
+        _ => matches_both(value, path_with(pattern, key, p, s)),
+    }
+}
+
+// Where the branching byte of a node ends in t[path..body], if it stands there.
+fn one_more(kind: usize, own: usize, path: usize, body: usize) -> usize
+    requires { ⌜ path ≤ body ⌝ }
+    ensures { λ r. ⌜ (r ≡ cond (eqb kind own && ltb path body) (path + 1) path) × (path ≤ r) × (r ≤ body) × (r ≤ path + 1) ⌝ }
+{
+    if kind == own {
+        if path < body {
+            return path + 1;
+        }
+    }
+    path
+}
+
+// Does a search enter the node of the bytes t, whose parent is of a kind? The byte that it asks of may stand behind the known path then.
+fn admits(
+    kind: usize,
+    pattern: &[u8],
+    low: u64,
+    high: u64,
+    key: &mut [u8],
+    v: usize,
+    p: usize,
+    t: &[u8],
+    path: usize,
+    body: usize,
+    common: Common,
 ) -> bool
     requires { ⌜ isFine (patternForm (now pattern)) ≡ true ⌝ }
-    requires { ⌜ (length (now key) ≡ slotSize) × (v + nv ≤ valueSize) × (p + np ≤ endedLimit) × (kind ≡ 0 → ⊥) ⌝ }
+    requires { ⌜ (length (now key) ≡ slotSize) × (v ≤ valueSize) × (p ≤ endedLimit) × (headSize ≤ path) × (path ≤ body) × (body ≤ length (now t)) × (kind ≡ 0 → ⊥) ⌝ }
+    requires { ⌜ InCommon (asked (now pattern) low high) kind v p (now key) common ⌝ }
     ensures { λ r.
-        ⌜ r ≡ enters (reaches (asked (now (pattern .entry)) low high)) (over kind) (known v p (now (key .entry))) (region (now (key .entry)) v nv ∷ region (now (key .entry)) (pathAt + p) np ∷ []) ⌝ }
+        ⌜ r ≡ enters (reaches (asked (now (pattern .entry)) low high)) (over kind) (known v p (now (key .entry))) (part headSize path (now (t .entry)) ∷ part path body (now (t .entry)) ∷ []) ⌝ }
+    ensures { λ _. ⌜ known v p (now (key .exit)) ≡ known v p (now (key .entry)) ⌝ }
 {
     if kind == ROOT {
         return true;
     }
-    let a = one_more(kind, 1, v, nv);
-    let b = one_more(kind, 2, p, np);
-    goes_on(pattern, low, high, key, a, b)
+    let other = common.other;
+    if kind == VALUE_KIND {
+        let value = value_more(
+            low,
+            high,
+            &key[0..v],
+            common.from,
+            common.to,
+            &t[HEAD_SIZE..path],
+        );
+        return goes_on(value, other);
+    }
+    let end = one_more(kind, PATH_KIND, path, body);
+    path_goes_on(other, pattern, key, p, &t[path..end])
 }
 
-// Goes down to a node of the bytes t, if its strings have room and a search enters it: then they stand behind what is known.
+// Goes down to a node of the bytes t, if a search enters it and its strings have room: then they stand behind what is known.
 pub(crate) fn descend(
     key: &mut [u8],
     v: usize,
@@ -136,28 +251,20 @@ pub(crate) fn descend(
     pattern: &[u8],
     low: u64,
     high: u64,
+    common: Common,
 ) -> bool
     requires { ⌜ isFine (patternForm (now pattern)) ≡ true ⌝ }
     requires { ⌜ (length (now key) ≡ slotSize) × (v ≤ valueSize) × (p ≤ endedLimit) × (headSize ≤ path) × (path ≤ body) × (body ≤ length (now t)) × (kind ≡ 0 → ⊥) ⌝ }
+    requires { ⌜ InCommon (asked (now pattern) low high) kind v p (now key) common ⌝ }
     ensures { λ r. ⌜ Descended (asked (now (pattern .entry)) low high) kind v p (now (t .entry)) path body (now (key .entry)) (now (key .exit)) r ⌝ }
 {
-    if enter(key, v, p, t, path, body) {
-        return admits(
-            kind,
-            pattern,
-            low,
-            high,
-            key,
-            v,
-            p,
-            path - HEAD_SIZE,
-            body - path,
-        );
+    if admits(kind, pattern, low, high, key, v, p, t, path, body, common) {
+        return enter(key, v, p, t, path, body);
     }
     false
 }
 
-// Makes the slot of the key of the suffix in b[..next], and tells whether it is taken.
+// Tells whether the key of the suffix in b[..next] is taken, and makes its slot then. from..to is the span of values behind the v bytes known.
 pub(crate) fn take_key(
     key: &mut [u8],
     v: usize,
@@ -166,15 +273,23 @@ pub(crate) fn take_key(
     path: usize,
     next: usize,
     pattern: &[u8],
-    low: u64,
-    high: u64,
+    from: u64,
+    to: u64,
 ) -> bool
     requires { ⌜ isFine (patternForm (now pattern)) ≡ true ⌝ }
     requires { ⌜ (length (now key) ≡ slotSize) × (v ≤ valueSize) × (p ≤ endedLimit) × (suffixSize ≤ path) × (path ≤ next) × (next ≤ length (now b)) ⌝ }
-    ensures { λ r. ⌜ Taken (asked (now (pattern .entry)) low high) v p (now (b .entry)) path next (now (key .entry)) (now (key .exit)) r ⌝ }
+    ensures { λ r.
+        ⌜ ((low high : ℕ) → Spans (asked (now (pattern .entry)) low high) (take v (now (key .entry))) (valueSize - v) from to → Taken (asked (now (pattern .entry)) low high) v p (now (b .entry)) path next (now (key .entry)) (now (key .exit)) r) ⌝ }
 {
-    if compose(key, v, p, b, path, next) {
-        return matches_key(pattern, low, high, key, p + (next - path));
+    if v + (path - SUFFIX_SIZE) != VALUE_SIZE {
+        return false;
+    }
+    if p + (next - path) > ENDED_LIMIT {
+        return false;
+    }
+    let value = value_with(from, to, v, &b[SUFFIX_SIZE..path]);
+    if path_matches(value, pattern, key, p, &b[path..next]) {
+        return compose(key, v, p, b, path, next);
     }
     false
 }

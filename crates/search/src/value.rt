@@ -4,13 +4,16 @@ use buffer::numbers::get64;
 use matcher::reach::Answer;
 use rows::sizes::VALUE_SIZE;
 ghost use mathlib.Core.Path.{_≡_};
-ghost use Prim.Native.Nat.{ℕ, _-_, _≤_};
+ghost use Prim.Native.Nat.{ℕ, _+_, _-_, _/_, _^_, _≤_, _<_};
+ghost use mathlib.Core.Bool.{cond, _&&_};
 ghost use mathlib.Core.List.{List, _++_};
-ghost use lib.ListN.{length, replicate};
+ghost use lib.Dec.{leb};
+ghost use lib.ListN.{length, replicate, take};
 ghost use Rattle.buffer.specs.Numbers.{number};
 ghost use Rattle.rows.specs.Sizes.{valueSize};
-ghost use Rattle.entries.specs.Query.{valueReach};
+ghost use Rattle.entries.specs.Query.{Query, valueReach};
 ghost use Rattle.search.specs.Asked.{asked};
+ghost use Rattle.search.specs.Spans.{Steps, Spans};
 
 // The value that begins with the known bytes, all others `filler`: with 0 the lowest, with 255 the highest.
 fn bound(known: &[u8], filler: u8) -> u64
@@ -39,6 +42,102 @@ pub fn value_reach(low: u64, high: u64, known: &[u8]) -> Answer
         return Answer::Mismatch;
     }
     if known.len() == VALUE_SIZE {
+        return Answer::Match;
+    }
+    Answer::Incomplete
+}
+
+// The numbers from..to: none where `from` is above `to`.
+pub struct Span {
+    pub from: u64,
+    pub to: u64,
+}
+
+// How many whole steps of a width lie below `low`, counted from `first` on?
+fn steps_below(low: u64, first: u64, width: u64) -> u64
+    requires { ⌜ 0 < width ⌝ }
+    ensures { λ r. ⌜ r ≡ (low - first) / width ⌝ }
+{
+    if first < low {
+        return (low - first) / width;
+    }
+    0
+}
+
+// The steps of a width, counted from `first` on, in which values of the range lie.
+fn steps(low: u64, high: u64, first: u64, width: u64) -> Span
+    requires { ⌜ 0 < width ⌝ }
+    ensures { λ r. ⌜ Steps low high first width (r .from) (r .to) ⌝ }
+{
+    if high < low {
+        return Span { from: 1, to: 0 };
+    }
+    if high < first {
+        return Span { from: 1, to: 0 };
+    }
+    Span {
+        from: steps_below(low, first, width),
+        to: (high - first) / width,
+    }
+}
+
+// How many values begin with the same 8 - n bytes?
+fn weight(n: usize) -> u64
+    requires { ⌜ n < valueSize ⌝ }
+    ensures { λ r. ⌜ (r ≡ 256 ^ n) × (0 < r) ⌝ }
+{
+    let mut w: u64 = 1;
+    let mut i: usize = 0;
+    while i < n {
+        w *= 256;
+        i += 1;
+    }
+    w
+}
+
+// Which numbers of n bytes continue the known bytes to a value in range, or to the beginning of one?
+pub(crate) fn span_behind(low: u64, high: u64, known: &[u8], n: usize) -> Span
+    requires { ⌜ (1 ≤ length (now known) + n) × (length (now known) + n ≤ valueSize) ⌝ }
+    ensures { λ r. ⌜ ((pattern : List ℕ) → Spans (asked pattern low high) (now (known .entry)) n (r .from) (r .to)) ⌝ }
+{
+    let left = VALUE_SIZE - known.len() - n;
+    steps(low, high, bound(known, 0), weight(left))
+}
+
+fn wide(b: u8) -> u64
+    ensures { λ r. ⌜ (r ≡ b) × (r < 256) ⌝ }
+{
+    b as u64
+}
+
+// The number that at most 8 bytes are.
+fn number_of(s: &[u8]) -> u64
+    requires { ⌜ length (now s) ≤ valueSize ⌝ }
+    ensures { λ r. ⌜ r ≡ number (now (s .entry)) ⌝ }
+{
+    let mut x: u64 = 0;
+    let mut i: usize = 0;
+    while i < s.len() {
+        x = x * 256 + wide(s[i]);
+        i += 1;
+    }
+    x
+}
+
+// The answer for a value of which v bytes were known and s is known too: from..to is the span behind those bytes.
+pub(crate) fn value_with(from: u64, to: u64, v: usize, s: &[u8]) -> Answer
+    requires { ⌜ v + length (now s) ≤ valueSize ⌝ }
+    ensures { λ r.
+        ⌜ ((q : Query) (k : List ℕ) → length k ≡ v → Spans q k (length (now (s .entry))) from to → r ≡ valueReach q (k ++ now (s .entry))) ⌝ }
+{
+    let x = number_of(s);
+    if x < from {
+        return Answer::Mismatch;
+    }
+    if to < x {
+        return Answer::Mismatch;
+    }
+    if v + s.len() == VALUE_SIZE {
         return Answer::Match;
     }
     Answer::Incomplete

@@ -1,12 +1,15 @@
 // The walk of a search over tries in bytes. Of the rows found it writes the first `room` into the answer, and counts all: with a room of 0 it only
 // counts. On bytes that are no sound trie's it returns all the same, with at most `depth` nested calls.
 use crate::step::ROOT;
+use crate::step::ask_once;
 use crate::step::descend;
 use crate::step::take_key;
+use crate::value::span_behind;
 use entries::SLOT_SIZE;
 use gather::key::put;
 use rows::sizes::NODE_LIMIT;
 use rows::sizes::ROW_SIZE;
+use rows::sizes::VALUE_SIZE;
 use trie_read::head::Head;
 use trie_read::head::read_head;
 use trie_read::sizes::HEAD_SIZE;
@@ -46,12 +49,13 @@ fn suffixes(
     ensures { λ r.
         ⌜ Searched (SuffixesFound (asked (now (pattern .entry)) low high) (known v p (now (key .entry))) (now (body .entry))) v p room rows 0 (now (answer .entry)) (now (key .entry)) (now (answer .exit)) (now (key .exit)) r 0 ⌝ }
 {
+    let rest = span_behind(low, high, &key[0..v], VALUE_SIZE - v);
     let mut t = body;
     let mut m = rows;
     loop {
         match read_suffix(t) {
             Tail::At { path, next } => {
-                if take_key(key, v, p, t, path, next, pattern, low, high) {
+                if take_key(key, v, p, t, path, next, pattern, rest.from, rest.to) {
                     put(answer, 0, m, room, &key[0..ROW_SIZE]);
                     m += 1;
                 }
@@ -96,6 +100,7 @@ fn walk(
     if depth == 0 {
         return Found { rows, nodes };
     }
+    let common = ask_once(kind, pattern, low, high, key, v, p);
     let mut t = body;
     let mut m = rows;
     let mut n = nodes;
@@ -107,7 +112,7 @@ fn walk(
                 body: start,
                 next,
             } => {
-                if descend(key, v, p, t, path, start, kind, pattern, low, high) {
+                if descend(key, v, p, t, path, start, kind, pattern, low, high, common) {
                     let found = walk(
                         &t[start..next],
                         own,

@@ -9,7 +9,7 @@ use lib.ListN.{length}
 use Rattle.buffer.specs.Lists.{flat}
 use Rattle.buffer.specs.Splice.{splice}
 use Rattle.rows.specs.Sizes.{rowSize}
-use Rattle.rows.specs.Entry.{Entry, row}
+use Rattle.rows.specs.Entry.{Entry, row, entry}
 use Rattle.rows.specs.Records.{records}
 use Rattle.entries.specs.Query.{Query}
 use Rattle.book.specs.Front.{frontOf}
@@ -24,7 +24,7 @@ use Rattle.logline.specs.Meaning.{setup, addition, searching, misread}
 use Rattle.logline.specs.Spelling.{entryLine, rowLine, Wrote}
 use Rattle.linespell.proofs.Writing.{then}
 use Rattle.session.specs.Sizes.{storeSize, answerSize}
-use Rattle.session.specs.Printed.{entry, setupCall, addCall, searchCall, replyLine, searched, printed, next}
+use Rattle.session.specs.Printed.{setupCall, addCall, searchCall, replyLine, searched, printed, next}
 use Rattle.session.specs.Keeps.{Keeps, Ran}
 use Rattle.session.proofs.Keeping.{Kept, kept-setup, kept-add, kept-search, accepted-sound}
 use Rattle.session.proofs.Enough.{accepted, refused}
@@ -48,11 +48,11 @@ module _ {store after out filled : List ℕ} {r : Reply} {n : ℕ} (lent : lengt
         keeps = λ b h. k b h .keeps;
       }
 
-  pub ran-add : (value : ℕ) (reference path : List ℕ) → typed (addCall (entry value reference path)) ≡ true → Adds (entry value reference path) store after r
+  pub ran-add : (value : ℕ) (reference path : List ℕ) → typed (addCall (entry path value reference)) ≡ true → Adds (entry path value reference) store after r
       → Ran (addition value reference path) store after out filled n
   unfolding printed next
   ran-add value reference path t p =
-      let e = entry value reference path in
+      let e = entry path value reference in
       let k : (b : Book) → Keeps store b → Kept b (addCall e) (result r []) after = λ b h. kept-add store after (result r []) lent size b e t (p, refl) h in
       record {
         short = short w;

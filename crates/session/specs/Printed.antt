@@ -3,7 +3,7 @@ use Prim.Native.Nat.{ℕ, zero, suc}
 use mathlib.Core.List.{List, [], _∷_, _++_, map}
 use lib.ListN.{length}
 use Rattle.buffer.specs.Lists.{flat}
-use Rattle.rows.specs.Entry.{Entry}
+use Rattle.rows.specs.Entry.{Entry, entry}
 use Rattle.entries.specs.Query.{Query}
 use Rattle.book.specs.Book.{Book, blank, front}
 use Rattle.book.specs.Replies.{Reply, searchNumber}
@@ -15,9 +15,6 @@ use Rattle.logline.specs.Spelling as Spelled
 use Rattle.logline.specs.Input.{linesOf}
 use Rattle.search.specs.Asked.{asked}
 use Rattle.session.specs.Sizes.{storeSize}
-
-abbrev pub entry : ℕ → List ℕ → List ℕ → Entry
-entry value reference path = record { path = path; value = value; reference = reference }
 
 -- the calls that a line asks for, on the whole store
 abbrev pub setupCall : ℕ → ℕ → ℕ → Call.Call
@@ -42,14 +39,14 @@ searched (suc n) found nodes = Spelled.reply (suc n) 0 0
 -- what is printed for a line, and the book after it; 12 changes nothing
 unfoldable pub printed : Book → Meaning → List ℕ
 printed b (setup m l t) = replyLine (step b (setupCall m l t) .result .reply)
-printed b (addition value reference path) = replyLine (step b (addCall (entry value reference path)) .result .reply)
+printed b (addition value reference path) = replyLine (step b (addCall (entry path value reference)) .result .reply)
 printed b (searching low high pattern) =
     let q = asked pattern low high in searched (searchNumber storeSize (front b) q) (matching q (b .entries)) (nodes q b)
 printed b misread = Spelled.reply 12 0 0
 
 unfoldable pub next : Book → Meaning → Book
 next b (setup m l t) = step b (setupCall m l t) .book
-next b (addition value reference path) = step b (addCall (entry value reference path)) .book
+next b (addition value reference path) = step b (addCall (entry path value reference)) .book
 next b (searching low high pattern) = b
 next b misread = b
 

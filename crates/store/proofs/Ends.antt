@@ -2,9 +2,9 @@
 use mathlib.Core.Path.{_≡_, refl, sym, ap, subst, _∙_}
 use mathlib.Core.Logic.{_⊎_, inl, inr}
 use Prim.Native.Nat.{ℕ, suc, _+_, _-_, _≤_}
-use mathlib.Core.List.{List, [], _∷_, _++_, append-assoc, append-nil, map}
+use mathlib.Core.List.{List, [], _∷_, _++_, append-nil, map}
 use native.Mathlib.Omega.{arith}
-use lib.ListN.{length, getD, replicate, length-append, length-replicate, take}
+use lib.ListN.{length, getD, replicate, length-append, length-replicate}
 use Rattle.buffer.specs.Lists.{All, cons, flat}
 use Rattle.buffer.specs.Splice.{region}
 use Rattle.buffer.specs.Numbers.{number}

@@ -1,9 +1,9 @@
 -- The bytes of an empty store: M, L, τ, and zeros. Assumes nothing.
 use mathlib.Core.Path.{_≡_, refl, sym, ap, _∙_}
 use Prim.Native.Nat.{ℕ, zero, suc, _+_, _-_, _*_, _^_, _≤_}
-use mathlib.Core.List.{List, [], _∷_, _++_, append-assoc, map}
+use mathlib.Core.List.{List, [], _∷_, _++_, append-assoc}
 use native.Mathlib.Omega.{arith}
-use lib.ListN.{length, take, drop, replicate, length-append, length-replicate}
+use lib.ListN.{length, replicate, length-append, length-replicate}
 use lib.Seq.{drop-nil, take-nil}
 use native.Mathlib.Nat.{zero-add, suc-add}
 use Rattle.buffer.specs.Splice.{splice}
@@ -12,11 +12,10 @@ use Rattle.buffer.proofs.Digits.{length-bytesOf}
 use Rattle.buffer.proofs.Splice.{splice-inside}
 use Rattle.trie_theory.specs.Forest.{none}
 use Rattle.rows.specs.Entry.{Entry}
-use Rattle.entries.specs.Keys.{entryKey}
-use Rattle.book.specs.Front.{frontBytes, frontSize, frontRoom, entryRoom, need}
+use Rattle.book.specs.Front.{frontBytes, frontRoom, entryRoom, need}
 use Rattle.book.specs.Digits.{rounds, small, level, levelStart, levelSize}
 use Rattle.book.specs.Tries.{tries}
-use Rattle.book.specs.Book.{Book, fresh, front}
+use Rattle.book.specs.Book.{fresh, front}
 use Rattle.book.specs.Image.{padded, regions, storeOf, image}
 use Rattle.book.proofs.Front.{length-front}
 use Rattle.book.proofs.Additions.{small-empty, level-empty}
@@ -89,6 +88,6 @@ module _ (m l t : ℕ) where
       let three = patched s s₃ s₄ (M ++ L) v T w 8 (two ∙ ap (splice s 0) (sym (append-assoc M L (v ++ w)))) (omega (arith, length-append M L, lM, lL)) lT (omega (arith, length-append M L, lw, lv, lM, lL)) d in
       three ∙ ap (splice s 0) (append-assoc M L (T ++ w)) ∙ ap (splice s 0) (sym (rw (← e) at image-fresh))
 
-pub need-least : (m l n : ℕ) → n ≡ need m l → 4096 ≤ n
+pub need-least : (m l n : ℕ) → n ≡ need m l → frontRoom ≤ n
 unfolding need
 need-least m l n e = omega arith

@@ -1,19 +1,18 @@
 -- Number 4, by the tests one after another. Assumes nothing.
-use mathlib.Core.Path.{_≡_, refl, sym, ap, _∙_}
-use mathlib.Core.Bool.{Bool, true, false, not, _||_}
-use Prim.Native.Nat.{ℕ, suc, _+_, _-_, _*_, _^_, _≤_, _<_}
+use mathlib.Core.Path.{_≡_, refl}
+use mathlib.Core.Bool.{Bool, true, false, not, _||_, true≢false}
+use Prim.Native.Nat.{ℕ, _-_, _*_, _^_, _≤_, _<_}
 use mathlib.Core.List.{List}
 use native.Mathlib.Omega.{arith}
 use lib.ListN.{length}
 use lib.Dec.{ltb}
 use borrow.Author.Tests.{lt-ltb, le-ltb, ltb-false, not-false}
-use Rattle.buffer.proofs.Tests.{or-left-false, or-right-false}
 use native.Mathlib.Nat.{mul-le-mul}
 use lib.Pow.{pow-pos}
 use Rattle.book.proofs.Front.{Within, within, too-short}
 use Rattle.store.specs.Opening.{Reads}
 use Rattle.store.specs.declared.front.Front as Code
-use Rattle.book.specs.Front.{Front, frontSize, frontOf, inLimits, need, capacity, noStore}
+use Rattle.book.specs.Front.{Front, frontSize, frontOf, mLimit, lLimit, inLimits, need, capacity, noStore}
 
 second : (a c d : Bool) → a || not false || c || d ≡ true
 second true c d = refl
@@ -66,19 +65,28 @@ module _ (s : List ℕ) (g : Code.Front) (r : Reads s g) where
   opened n p a w e k q h =
       a-store (length s) f a (limits true w) (rw (← r .m-is, ← r .l-is, ← e) k) (rw (r .m-is, r .l-is, r .held-is) at (rw q at h))
 
--- what a store is that is not 4
-module _ (s : List ℕ) (g : Code.Front) (r : Reads s g) (h : noStore (length s) (frontOf s) ≡ false) where
-  is-store : (inLimits (frontOf s .M) (frontOf s .L) (frontOf s .τ) ≡ true) × (need (frontOf s .M) (frontOf s .L) ≤ length s)
-  unfolding noStore
-  is-store =
-      let f = frontOf s in
-      let n = length s in
-      let a = ltb n frontSize in
-      let b = not (inLimits (f .M) (f .L) (f .τ)) in
-      let c = ltb n (need (f .M) (f .L)) in
-      let d = ltb (capacity (f .M) (f .L)) (f .held) in
-      let abc = or-left-false (a || b || c) d h in
-      (not-false (inLimits (f .M) (f .L) (f .τ)) (or-right-false a b (or-left-false (a || b) c abc)), ltb-false n (need (f .M) (f .L)) (or-right-false (a || b) c abc))
+-- WHAT A STORE IS THAT IS NOT 4
+pub record Stored (n : ℕ) (f : Front) : Type 0 where
+  pub limits : Within (f .M) (f .L) (f .τ)
+  pub enough : need (f .M) (f .L) ≤ n
+  pub inside : f .held < f .M * 2 ^ f .L
 
-  pub opened-within : (g .m ≤ 4096) × (g .l ≤ 8) × (need (g .m) (g .l) ≤ length s)
-  opened-within = let w = within _ _ _ (is-store .0) in rw (r .m-is, r .l-is) (w .m-high, w .l-high, is-store .1)
+four-false : (a b c d : Bool) → a || b || c || d ≡ false → (a ≡ false) × (b ≡ false) × (c ≡ false) × (d ≡ false)
+four-false true b c d e = absurd (true≢false e)
+four-false false true c d e = absurd (true≢false e)
+four-false false false true d e = absurd (true≢false e)
+four-false false false false true e = absurd (true≢false e)
+four-false false false false false e = (refl, refl, refl, refl)
+
+pub stored : (n : ℕ) (f : Front) → noStore n f ≡ false → Stored n f
+unfolding noStore capacity
+stored n f e =
+    let p = four-false (ltb n frontSize) (not (inLimits (f .M) (f .L) (f .τ))) (ltb n (need (f .M) (f .L))) (ltb (f .M * 2 ^ f .L - 1) (f .held)) e in
+    let w = within (f .M) (f .L) (f .τ) (not-false (inLimits (f .M) (f .L) (f .τ)) (p .1)) in
+    let some : 0 < f .M * 2 ^ f .L = mul-le-mul (w .m-low) (pow-pos (f .L)) in
+    record { limits = w; enough = ltb-false n (need (f .M) (f .L)) (p .2); inside = omega (arith, some, ltb-false (f .M * 2 ^ f .L - 1) (f .held) (p .3)) }
+
+-- .. by the numbers read
+pub opened-within : (s : List ℕ) (g : Code.Front) → Reads s g → noStore (length s) (frontOf s) ≡ false
+    → (g .m ≤ mLimit) × (g .l ≤ lLimit) × (need (g .m) (g .l) ≤ length s)
+opened-within s g r h = let w = stored (length s) (frontOf s) h in rw (r .m-is, r .l-is) (w .limits .m-high, w .limits .l-high, w .enough)

@@ -1,3 +1,4 @@
 pub mod Opening
 pub mod Said
 pub mod Parts
+pub mod Listing

@@ -3,7 +3,7 @@ ghost use mathlib.Core.Path.{_≡_};
 ghost use mathlib.Core.Bool.{true};
 ghost use Prim.Native.Nat.{_+_, _*_, _^_, _≤_, _<_};
 ghost use lib.ListN.{length};
-ghost use Rattle.book.specs.Front.{inLimits, need};
+ghost use Rattle.book.specs.Front.{inLimits, need, mLimit, lLimit, frontSize};
 ghost use Rattle.store.specs.Opening.{Reads, OpenedAs};
 use buffer::numbers::get32;
 use trie_read::head::wide32;
@@ -17,6 +17,9 @@ pub const TAU_LIMIT: u64 = 100;
 
 // The four numbers of the front.
 pub const FRONT_SIZE: usize = 16;
+
+// Where the held number stands, the last of them.
+pub const HELD_AT: usize = 12;
 
 // Bytes kept for the front, and for each entry that a level can hold.
 pub const FRONT_ROOM: usize = 4096;
@@ -46,8 +49,8 @@ pub(crate) fn in_limits(m: u64, l: u64, tau: u64) -> bool
 
 // 2 to the power of l.
 pub fn power(l: usize) -> usize
-    requires { ⌜ l ≤ 8 ⌝ }
-    ensures { λ r. ⌜ (r ≡ 2 ^ l) × (r ≤ 256) ⌝ }
+    requires { ⌜ l ≤ lLimit ⌝ }
+    ensures { λ r. ⌜ (r ≡ 2 ^ l) × (r ≤ 2 ^ lLimit) ⌝ }
 {
     let mut p: usize = 1;
     let mut i: usize = 0;
@@ -60,7 +63,7 @@ pub fn power(l: usize) -> usize
 
 // The bytes that a store needs.
 pub fn needed(m: usize, l: usize) -> usize
-    requires { ⌜ (m ≤ 4096) × (l ≤ 8) ⌝ }
+    requires { ⌜ (m ≤ mLimit) × (l ≤ lLimit) ⌝ }
     ensures { λ r. ⌜ r ≡ need m l ⌝ }
 {
     ENTRY_ROOM * m * power(l) + FRONT_ROOM
@@ -82,14 +85,14 @@ pub enum Opened {
 
 // Reads the four numbers.
 fn read_front(store: &[u8]) -> Front
-    requires { ⌜ 16 ≤ length (now store) ⌝ }
+    requires { ⌜ frontSize ≤ length (now store) ⌝ }
     ensures { λ r. ⌜ Reads (now (store .entry)) r ⌝ }
 {
     Front {
         m: wide32(get32(store, 0)),
         l: wide32(get32(store, 4)),
         tau: wide32(get32(store, 8)),
-        held: wide32(get32(store, 12)),
+        held: wide32(get32(store, HELD_AT)),
     }
 }
 

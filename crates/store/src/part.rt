@@ -4,9 +4,9 @@ use crate::front::ENTRY_ROOM;
 use crate::front::FRONT_ROOM;
 use crate::front::power;
 ghost use mathlib.Core.Path.{_≡_};
-ghost use Prim.Native.Nat.{_≤_};
+ghost use Prim.Native.Nat.{_*_, _≤_};
 ghost use lib.ListN.{length};
-ghost use Rattle.book.specs.Front.{need};
+ghost use Rattle.book.specs.Front.{need, mLimit, lLimit, entriesLimit, needLimit, entryRoom};
 ghost use Rattle.store.specs.Parts.{regionAt, regionSize, PartOf};
 
 // The bytes from..to of a store.
@@ -17,8 +17,8 @@ pub struct Part {
 
 // How many bytes the store keeps for trie k.
 pub fn region_size(m: usize, k: usize) -> usize
-    requires { ⌜ (m ≤ 4096) × (k ≤ 8) ⌝ }
-    ensures { λ r. ⌜ (r ≡ regionSize m k) × (r ≤ 1073741824) ⌝ }
+    requires { ⌜ (m ≤ mLimit) × (k ≤ lLimit) ⌝ }
+    ensures { λ r. ⌜ (r ≡ regionSize m k) × (r ≤ entryRoom * entriesLimit) ⌝ }
 {
     if k == 0 {
         return ENTRY_ROOM * m;
@@ -28,8 +28,8 @@ pub fn region_size(m: usize, k: usize) -> usize
 
 // Where they begin.
 pub fn region_at(m: usize, k: usize) -> usize
-    requires { ⌜ (m ≤ 4096) × (k ≤ 8) ⌝ }
-    ensures { λ r. ⌜ (r ≡ regionAt m k) × (r ≤ 1073745920) ⌝ }
+    requires { ⌜ (m ≤ mLimit) × (k ≤ lLimit) ⌝ }
+    ensures { λ r. ⌜ (r ≡ regionAt m k) × (r ≤ needLimit) ⌝ }
 {
     if k == 0 {
         return FRONT_ROOM;
@@ -39,7 +39,7 @@ pub fn region_at(m: usize, k: usize) -> usize
 
 // The part that trie k takes of its region.
 pub fn trie_part(store: &[u8], m: usize, l: usize, k: usize) -> Part
-    requires { ⌜ (m ≤ 4096) × (l ≤ 8) × (k ≤ l) × (need m l ≤ length (now store)) ⌝ }
+    requires { ⌜ (m ≤ mLimit) × (l ≤ lLimit) × (k ≤ l) × (need m l ≤ length (now store)) ⌝ }
     ensures { λ r. ⌜ PartOf (now (store .entry)) m l k (r .from) (r .to) ⌝ }
 {
     let from = region_at(m, k);

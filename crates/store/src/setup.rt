@@ -2,6 +2,7 @@
 use crate::front::in_limits;
 use crate::front::needed;
 use crate::reply::Reply;
+use crate::reply::plain_reply;
 use buffer::moves::clear;
 use buffer::numbers::put32;
 ghost use mathlib.Core.Path.{_≡_};
@@ -33,22 +34,10 @@ pub fn prepare(store: &mut [u8], m: u64, l: u64, tau: u64) -> Reply
     if in_limits(m, l, tau) {
         let n = needed(m as usize, l as usize);
         if store.len() < n {
-            return Reply {
-                number: 6,
-                first: 0,
-                second: 0,
-            };
+            return plain_reply(6, 0);
         }
         write_fresh(store, m, l, tau, n);
-        return Reply {
-            number: 0,
-            first: 0,
-            second: 0,
-        };
+        return plain_reply(0, 0);
     }
-    Reply {
-        number: 5,
-        first: 0,
-        second: 0,
-    }
+    plain_reply(5, 0)
 }

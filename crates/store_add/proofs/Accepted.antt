@@ -1,26 +1,24 @@
 -- What an addition that no check refuses has, in figures. Assumes nothing.
 use mathlib.Core.Path.{_≡_, refl}
-use mathlib.Core.Bool.{Bool, true, false, not, _||_, true≢false}
+use mathlib.Core.Bool.{true, false}
 use Prim.Native.Nat.{ℕ, suc, _+_, _*_, _-_, _^_, _≤_, _<_}
 use mathlib.Core.List.{List, [], _∷_}
 use native.Mathlib.Omega.{arith}
-use native.Mathlib.Nat.{mul-le-mul}
-use lib.Pow.{pow-pos}
 use lib.ListN.{length, getD}
 use lib.Dec.{ltb}
-use borrow.Author.Tests.{eqb-true, eqb-false, ltb-false, lt-ltb, not-false}
+use borrow.Author.Tests.{eqb-true, eqb-false, lt-ltb}
 use Rattle.buffer.specs.Lists.{all}
 use Rattle.buffer.specs.Numbers.{byte}
 use Rattle.buffer.proofs.Tests.{and-left, and-right, and-both}
 use Rattle.rows.specs.Sizes.{referenceSize}
 use Rattle.rows.specs.Entry.{Entry}
-use Rattle.book.specs.Front.{Front, frontOf, frontSize, inLimits, need, capacity, noStore, full}
+use Rattle.book.specs.Front.{Front, frontOf, capacity, noStore, full}
 use Rattle.book.specs.Book.{formed}
 use Rattle.book.specs.Replies.{addNumber}
 use Rattle.book.specs.Calls.{add, typed}
-use Rattle.book.proofs.Front.{Within, within}
 use Rattle.book.proofs.Numbers.{acceptable}
 use Rattle.book.proofs.Keys.{as-formed, path-short}
+use Rattle.store.proofs.Opening.{stored}
 use Rattle.store_add.specs.Ready.{Ready}
 use Rattle.store_add.proofs.Checks.{capacity-most}
 
@@ -33,28 +31,7 @@ pub is-typed : (n : ℕ) (e : Entry) → e .value < 2 ^ 64 → ((i : ℕ) → ge
 unfolding typed
 is-typed n e v r = and-both (lt-ltb (e .value) (2 ^ 64) v) (all-bytes (e .reference) r)
 
--- a store: what its numbers keep to
-pub record Stored (n : ℕ) (f : Front) : Type 0 where
-  pub limits : Within (f .M) (f .L) (f .τ)
-  pub enough : need (f .M) (f .L) ≤ n
-  pub inside : f .held < f .M * 2 ^ f .L
-
-four-false : (a b c d : Bool) → a || b || c || d ≡ false → (a ≡ false) × (b ≡ false) × (c ≡ false) × (d ≡ false)
-four-false true b c d e = absurd (true≢false e)
-four-false false true c d e = absurd (true≢false e)
-four-false false false true d e = absurd (true≢false e)
-four-false false false false true e = absurd (true≢false e)
-four-false false false false false e = (refl, refl, refl, refl)
-
-pub stored : (n : ℕ) (f : Front) → noStore n f ≡ false → Stored n f
-unfolding noStore capacity
-stored n f e =
-    let p = four-false (ltb n frontSize) (not (inLimits (f .M) (f .L) (f .τ))) (ltb n (need (f .M) (f .L))) (ltb (f .M * 2 ^ f .L - 1) (f .held)) e in
-    let w = within (f .M) (f .L) (f .τ) (not-false (inLimits (f .M) (f .L) (f .τ)) (p .1)) in
-    let some : 0 < f .M * 2 ^ f .L = mul-le-mul (w .m-low) (pow-pos (f .L)) in
-    record { limits = w; enough = ltb-false n (need (f .M) (f .L)) (p .2); inside = omega (arith, some, ltb-false (f .M * 2 ^ f .L - 1) (f .held) (p .3)) }
-
--- .. so the checks can be made
+-- the checks can be made of a store that was opened
 pub checkable : (m l held : ℕ) (store : List ℕ) → let f = frontOf store in
     m ≡ f .M → l ≡ f .L → held ≡ f .held → noStore (length store) f ≡ false → (m ≤ 4096) × (l ≤ 8) × (held < m * 2 ^ l)
 checkable m l held store em el eh e =

@@ -3,42 +3,52 @@ use mathlib.Core.Path.{_≡_, sym, ap, _∙_}
 use Prim.Native.Nat.{ℕ, _+_, _*_, _-_, _≤_, _<_}
 use mathlib.Core.List.{List}
 use native.Mathlib.Omega.{arith}
-use lib.ListN.{length, drop, length-map}
+use lib.ListN.{length, take, drop, length-map}
 use Rattle.buffer.specs.Numbers.{bytesOf, number}
 use Rattle.buffer.specs.Splice.{splice, region}
 use Rattle.buffer.proofs.Digits.{length-bytesOf, number-bytesOf}
-use Rattle.buffer.proofs.Splice.{length-splice, drop-after, region-at}
+use Rattle.buffer.proofs.Splice.{length-splice, drop-after, region-at, region-before}
 use Rattle.rows.specs.Entry.{Entry}
 use Rattle.trie_theory.specs.Dimensions.{root}
 use Rattle.trie_theory.specs.SmallTrie.{added}
 use Rattle.trie_theory.specs.Encode.{encode}
 use Rattle.trie_theory.proofs.TrieOf.{figures}
 use Rattle.entries.specs.Keys.{entryKey}
-use Rattle.book.specs.Front.{frontRoom, entryRoom, frontOf, need}
+use Rattle.book.specs.Front.{frontSize, heldAt, frontRoom, entryRoom, frontOf, holding, need}
 use Rattle.book.specs.Book.{Book, Sound, held, front, put}
 use Rattle.book.specs.Digits.{small}
 use Rattle.book.specs.Tries.{tries}
 use Rattle.book.specs.Image.{image, padded, Holds}
-use Rattle.book.proofs.Regions.{smallAt, heldAt}
+use Rattle.book.proofs.Regions.{smallAt, region-take}
 use Rattle.book.proofs.Image.{length-image, image-fits, small-formed, small-trie-of}
 use Rattle.book.proofs.Writes.{as-held, write-within, add-small}
 use Rattle.store.proofs.Places.{region-within}
 
--- the held number is read back
-pub held-back : (s : List ℕ) (n : ℕ) → 16 ≤ length s → frontOf (splice s heldAt (bytesOf 4 n)) .held ≡ n
+-- the four numbers read back: M, L and τ as before
+pub held-back : (store s : List ℕ) (n : ℕ) → frontRoom ≤ length s → frontRoom ≤ length store → take frontRoom s ≡ take frontRoom store
+    → frontOf (splice s heldAt (bytesOf 4 n)) ≡ holding n (frontOf store)
 unfolding frontOf
-held-back s n h =
+held-back store s n h k kept =
     let four : length (bytesOf 4 n) ≡ 4 = length-bytesOf 4 n in
-    let e : region (splice s heldAt (bytesOf 4 n)) heldAt (length (bytesOf 4 n)) ≡ bytesOf 4 n = region-at s heldAt (bytesOf 4 n) (omega arith) in
-    ap (λ (k : ℕ). number (region (splice s heldAt (bytesOf 4 n)) heldAt k)) (sym four) ∙ ap number e ∙ number-bytesOf 3 n
+    let fits : heldAt + length (bytesOf 4 n) ≤ length s = omega arith in
+    let held : region (splice s heldAt (bytesOf 4 n)) heldAt 4 ≡ bytesOf 4 n = rw four at (region-at s heldAt (bytesOf 4 n) fits) in
+    let same : (o : ℕ) → o + 4 ≤ heldAt → region (splice s heldAt (bytesOf 4 n)) o 4 ≡ region store o 4 =
+    λ o l. region-before s heldAt (bytesOf 4 n) fits o 4 l ∙ region-take s frontRoom o 4 (omega arith) h ∙ ap (λ (t : List ℕ). region t o 4) kept ∙ sym (region-take store frontRoom o 4 (omega arith) k) in
+    λ i.
+    record {
+      M = number (same 0 (omega arith) i);
+      L = number (same 4 (omega arith) i);
+      τ = number (same 8 (omega arith) i);
+      held = (ap number held ∙ number-bytesOf 3 n) i;
+    }
 
 -- what stands before its end does not matter to what stands behind
-pub held-beyond : (s : List ℕ) (n k : ℕ) → 16 ≤ k → k ≤ length s → drop k (splice s heldAt (bytesOf 4 n)) ≡ drop k s
+pub held-beyond : (s : List ℕ) (n k : ℕ) → frontSize ≤ k → k ≤ length s → drop k (splice s heldAt (bytesOf 4 n)) ≡ drop k s
 held-beyond s n k h l =
     let four : length (bytesOf 4 n) ≡ 4 = length-bytesOf 4 n in
     drop-after s heldAt (bytesOf 4 n) (omega arith) k (omega arith)
 
-pub held-size : (s : List ℕ) (n : ℕ) → 16 ≤ length s → length (splice s heldAt (bytesOf 4 n)) ≡ length s
+pub held-size : (s : List ℕ) (n : ℕ) → frontSize ≤ length s → length (splice s heldAt (bytesOf 4 n)) ≡ length s
 held-size s n h = length-splice s heldAt (bytesOf 4 n) (omega (arith, length-bytesOf 4 n))
 
 -- the region of the small trie lies within the need

@@ -5,14 +5,14 @@ use mathlib.Core.Bool.{true}
 use mathlib.Core.List.{List, [], _∷_, _++_}
 use native.Mathlib.Omega.{arith}
 use native.Mathlib.Nat.{mod-lt}
-use lib.ListN.{length, drop, length-append}
+use lib.ListN.{length, take, drop, length-append}
 use Rattle.buffer.specs.Lists.{all}
 use Rattle.buffer.specs.Numbers.{bytesOf}
 use Rattle.buffer.specs.Splice.{splice}
 use Rattle.buffer.proofs.Digits.{length-bytesOf}
 use Rattle.buffer.proofs.Lists.{all-head, all-right, all-tested}
-use Rattle.buffer.proofs.Splice.{length-splice, drop-after}
-use Rattle.rows.specs.Entry.{Entry}
+use Rattle.buffer.proofs.Splice.{length-splice, take-before, drop-after}
+use Rattle.rows.specs.Entry.{Entry, entry}
 use Rattle.matcher.specs.Bytes.{pathLimit}
 use Rattle.rows.specs.Sizes.{valueSize}
 use Rattle.trie_theory.specs.Forest.{Key}
@@ -21,7 +21,7 @@ use Rattle.trie_theory.specs.SmallTrie.{added}
 use Rattle.trie_theory.specs.Encode.{encode}
 use Rattle.trie_add.specs.Added.{growthLimit}
 use Rattle.entries.specs.Keys.{entryKey}
-use Rattle.book.specs.Front.{entryRoom, need}
+use Rattle.book.specs.Front.{heldAt, frontRoom, entryRoom, need}
 use Rattle.book.specs.Digits.{small}
 use Rattle.book.specs.Book.{Book, Sound, held, front, put, formed}
 use Rattle.book.specs.Tries.{tries}
@@ -29,14 +29,13 @@ use Rattle.book.specs.Image.{image, padded, Holds}
 use Rattle.book.proofs.Image.{image-fits}
 use Rattle.book.proofs.Good.{tries-good}
 use Rattle.book.proofs.Overflow.{small-length}
-use Rattle.book.proofs.Regions.{smallAt, heldAt, holds-small}
+use Rattle.book.proofs.Regions.{smallAt, holds-small}
 use Rattle.trie_read.specs.Shape.{keyOf}
 use Rattle.trie_read.proofs.Stretch.{length-part}
 use Rattle.store.specs.Parts.{PartOf}
 use Rattle.store.proofs.Places.{good-regular}
 use Rattle.store_add.specs.Small.{SmallGrown}
 use Rattle.store_overflow.specs.Overflow.{Overflowed}
-use Rattle.store_overflow.specs.Steps.{entry}
 use Rattle.store_add.specs.Placed.{Placed}
 use Rattle.store_add.proofs.Held.{small-inside, small-room, small-image}
 
@@ -60,6 +59,7 @@ module _ (m l tau n used : ℕ) (e : Entry) (store after : List ℕ) (enough : n
   placed-small low is =
       record {
         size = ap length (g .is) ∙ length-splice store smallAt (g .own) fits;
+        front-kept = ap (take frontRoom) (g .is) ∙ take-before store smallAt (g .own) fits frontRoom (omega arith);
         beyond = ap (drop (need m l)) (g .is) ∙ drop-after store smallAt (g .own) fits (need m l) (omega (arith, g .size, small-inside m l));
         ours = λ b s s′ h p q r k. of-book b s s′ h p q r k;
       }
@@ -99,6 +99,7 @@ pub placed-level : (m l tau n : ℕ) (e : Entry) (store after : List ℕ) → 1 
 placed-level m l tau n e store after some high space o =
     record {
       size = o .size;
+      front-kept = o .front;
       beyond = o .beyond;
       ours = λ b s s′ h p q r k.
           (let rest = mod-lt n some in

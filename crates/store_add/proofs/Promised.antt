@@ -10,14 +10,14 @@ use Rattle.buffer.specs.Lists.{any}
 use Rattle.buffer.specs.Numbers.{bytesOf}
 use Rattle.buffer.specs.Splice.{splice}
 use Rattle.rows.specs.Sizes.{valueSize}
-use Rattle.rows.specs.Entry.{Entry}
+use Rattle.rows.specs.Entry.{Entry, entry}
 use Rattle.trie_theory.specs.Forest.{Key}
 use Rattle.trie_theory.specs.Dimensions.{root}
 use Rattle.trie_theory.specs.Lookup.{member}
 use Rattle.entries.specs.Keys.{entryKey}
 use Rattle.trie_read.specs.Shape.{keyOf}
-use Rattle.book.specs.Front.{Front, frontOf, need}
-use Rattle.book.specs.Book.{Book, held, front, put}
+use Rattle.book.specs.Front.{Front, frontSize, heldAt, frontRoom, frontOf, holding, need}
+use Rattle.book.specs.Book.{Book, held, front}
 use Rattle.book.specs.Tries.{tries, every}
 use Rattle.book.specs.FromTries.{hasIn}
 use Rattle.book.specs.Replies.{reply, addNumber}
@@ -32,9 +32,8 @@ use Rattle.book.proofs.Good.{tries-good}
 use Rattle.book.proofs.OneCall.{front-read, need-front}
 use Rattle.book.proofs.OverTries.{looked-up}
 use Rattle.book.proofs.FromTries.{add-tries}
-use Rattle.book.proofs.Regions.{heldAt}
 use Rattle.book.proofs.Writes.{as-held}
-use Rattle.store_overflow.specs.Steps.{entry}
+use Rattle.store.proofs.Fresh.{need-least}
 use Rattle.store_add.specs.Placed.{LookedUp, Placed}
 use Rattle.store_add.proofs.Held.{held-back, held-beyond, held-size}
 use Rattle.store_add.proofs.Placing.{key-is}
@@ -102,13 +101,16 @@ module _ (store : List ℕ) (e : Entry) where
           → (placed after : List ℕ) → Placed m l tau n e store placed → after ≡ splice placed heldAt (bytesOf 4 (n + 1)) → Adds e store after (reply 0 (n + 1) 0)
       puts t y enough tau n tau-is n-is placed after p a =
           let f = need-front m l in
-          let long : 16 ≤ length placed = omega (arith, f, enough, p .size) in
+          let long : frontSize ≤ length placed = omega (arith, f, enough, p .size) in
+          let room : frontRoom ≤ need m l = need-least m l (need m l) refl in
+          let front-is : frontOf after ≡ holding (frontOf store .held + 1) (frontOf store) =
+          ap frontOf a ∙ held-back store placed (n + 1) (omega (arith, room, enough, p .size)) (omega (arith, room, enough)) (p .front-kept) ∙ ap (λ (k : ℕ). holding (k + 1) (frontOf store)) n-is in
           record {
             refused = λ k y. none-refuses k y;
             otherwise = λ y.
                 record {
-                  number = inl refl;
-                  first = sym (ap (λ (s : List ℕ). frontOf s .held) a ∙ held-back placed (n + 1) long);
+                  number = inl (refl, front-is);
+                  first = sym (ap (λ (x : Front). x .held) front-is ∙ ap (λ (k : ℕ). k + 1) (sym n-is));
                   second = refl;
                   size = ap length a ∙ held-size placed (n + 1) long ∙ p .size;
                   beyond = rw (← m-is, ← l-is) (ap (drop (need m l)) a ∙ held-beyond placed (n + 1) (need m l) f (omega (arith, enough, p .size)) ∙ p .beyond);

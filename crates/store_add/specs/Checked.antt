@@ -3,9 +3,9 @@ use Prim.Native.Nat.{ℕ}
 use mathlib.Core.Path.{_≡_}
 use mathlib.Core.Bool.{false}
 use mathlib.Core.List.{List}
+use Rattle.rows.specs.Entry.{entry}
 use Rattle.book.specs.Front.{Front, noStore}
 use Rattle.book.specs.Replies.{addNumber}
-use Rattle.store_overflow.specs.Steps.{entry}
 
 -- r is the number of an addition of any value to a store with these numbers
 abbrev pub Checked : ℕ → ℕ → ℕ → List ℕ → List ℕ → ℕ → Type 0

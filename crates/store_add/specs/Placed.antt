@@ -4,7 +4,7 @@ use Prim.Native.Nat.{ℕ, _+_}
 use mathlib.Core.Path.{_≡_}
 use mathlib.Core.Bool.{Bool}
 use mathlib.Core.List.{List}
-use lib.ListN.{length, drop}
+use lib.ListN.{length, take, drop}
 use Rattle.buffer.specs.Lists.{any}
 use Rattle.buffer.specs.Numbers.{bytesOf}
 use Rattle.buffer.specs.Splice.{splice}
@@ -12,12 +12,11 @@ use Rattle.rows.specs.Entry.{Entry}
 use Rattle.trie_theory.specs.Forest.{Key}
 use Rattle.trie_theory.specs.Dimensions.{root}
 use Rattle.trie_theory.specs.Lookup.{member}
-use Rattle.book.specs.Front.{Front, need}
+use Rattle.book.specs.Front.{Front, heldAt, frontRoom, need}
 use Rattle.book.specs.Book.{Book, Sound, held, front, put}
 use Rattle.book.specs.Tries.{Tries, every, tries}
 use Rattle.book.specs.Good.{GoodTries}
 use Rattle.book.specs.Image.{image, Holds}
-use Rattle.store_overflow.specs.Overflow.{heldAt}
 use Rattle.store.specs.Parts.{numbered, upTo}
 
 -- r is what is asked of the tries that the store holds
@@ -34,9 +33,10 @@ InFirst m l k x = OfTries m l (λ t. any (λ g. member root g x) (upTo k t))
 abbrev pub LookedUp : ℕ → ℕ → Key → List ℕ → Bool → Type 0
 LookedUp m l x = OfTries m l (λ t. any (λ g. member root g x) (every l t))
 
--- nothing is changed beyond the need, and with the held number one more the store of a book is the store of the book with the entry
+-- the front and what lies beyond the need are unchanged, and with the held number one more the store of a book is the store of the book with the entry
 pub record Placed (m l tau n : ℕ) (e : Entry) (store after : List ℕ) : Type 0 where
   pub size : length after ≡ length store
+  pub front-kept : take frontRoom after ≡ take frontRoom store
   pub beyond : drop (need m l) after ≡ drop (need m l) store
   pub ours : (b : Book) → Sound b → Sound (put e b) → Holds store (front b) (tries b) → m ≡ b .M → l ≡ b .L → tau ≡ b .τ → n ≡ held b
       → splice after heldAt (bytesOf 4 (held b + 1)) ≡ splice store 0 (image (put e b))

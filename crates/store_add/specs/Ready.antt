@@ -7,7 +7,7 @@ use lib.ListN.{length}
 use Rattle.matcher.specs.Bytes.{pathLimit}
 use Rattle.rows.specs.Sizes.{referenceSize}
 use Rattle.rows.specs.Entry.{Entry}
-use Rattle.book.specs.Front.{frontOf, need}
+use Rattle.book.specs.Front.{frontOf, need, mLimit, lLimit, entriesLimit}
 use Rattle.book.specs.Replies.{addNumber}
 use Rattle.book.specs.Calls.{add, typed}
 
@@ -20,10 +20,10 @@ pub record Ready (m l tau held : ℕ) (e : Entry) (store : List ℕ) : Type 0 wh
   pub accepted : addNumber (length store) (frontOf store) e ≡ 0
   pub types : typed (add (length store) e) ≡ true
   pub m-low : 1 ≤ m
-  pub m-high : m ≤ 4096
-  pub l-high : l ≤ 8
+  pub m-high : m ≤ mLimit
+  pub l-high : l ≤ lLimit
   pub enough : need m l ≤ length store
   pub space : held + 1 < m * 2 ^ l
-  pub few : held < 1048576
+  pub few : held < entriesLimit
   pub short : length (e .path) ≤ pathLimit
   pub twenty : length (e .reference) ≡ referenceSize

@@ -9,26 +9,16 @@ use buffer::sizes::VALUE_SIZE;
 use store::front::Opened;
 use store::front::open;
 use store::reply::Reply;
+use store::reply::plain_reply;
 ghost use mathlib.Core.Path.{_≡_};
+ghost use Rattle.rows.specs.Entry.{entry};
 ghost use Rattle.book.specs.Replies.{reply};
 ghost use Rattle.book.specs.Promises.{Adds};
 ghost use Rattle.store.specs.Said.{said};
-ghost use Rattle.store_overflow.specs.Steps.{entry};
 ghost use Rattle.store_add.specs.Ready.{Ready};
 
 // A path with its end byte.
 const ENDED_LIMIT: usize = PATH_LIMIT + 1;
-
-// The second value is zero in every reply, and in a refusal the first is too.
-fn answer(number: u32, first: usize) -> Reply
-    ensures { λ r. ⌜ said r ≡ reply number first 0 ⌝ }
-{
-    Reply {
-        number,
-        first: first as u64,
-        second: 0,
-    }
-}
 
 // An addition that no check refuses.
 fn admit(
@@ -51,7 +41,7 @@ fn admit(
     copy_from(&mut ended, 0, path);
     let n = path.len() + 1;
     if has_entry(store, m, l, &bytes, &ended[0..n], reference) {
-        return answer(100, held);
+        return plain_reply(100, held);
     }
     put_entry(
         store,
@@ -65,7 +55,7 @@ fn admit(
         &bytes,
         &ended[0..n],
     );
-    answer(0, held + 1)
+    plain_reply(0, held + 1)
 }
 
 // Adds an entry: a path, a value and a reference. Document 01's numbers, in their sequence.
@@ -76,7 +66,7 @@ pub fn add(store: &mut [u8], path: &[u8], value: u64, reference: &[u8]) -> Reply
     let opened = open(store);
     match opened {
         Opened::Missing => {
-            return answer(4, 0);
+            return plain_reply(4, 0);
         }
         Opened::Store(front) => {
             let m = front.m;
@@ -86,7 +76,7 @@ pub fn add(store: &mut [u8], path: &[u8], value: u64, reference: &[u8]) -> Reply
             if number == 0 {
                 return admit(store, m, l, front.tau, held, path, value, reference);
             }
-            return answer(number, 0);
+            return plain_reply(number, 0);
         }
     }
 }

@@ -4,11 +4,12 @@ use matcher::form::Form;
 use matcher::form::check_path;
 use store::front::power;
 ghost use Prim.Native.Nat.{_*_, _^_, _≤_, _<_};
+ghost use Rattle.book.specs.Front.{mLimit, lLimit};
 ghost use Rattle.store_add.specs.Checked.{Checked};
 
 // The number of the first check that refuses, 0 where none does.
 pub(crate) fn refusal(m: usize, l: usize, held: usize, path: &[u8], reference: &[u8]) -> u32
-    requires { ⌜ (m ≤ 4096) × (l ≤ 8) × (held < m * 2 ^ l) ⌝ }
+    requires { ⌜ (m ≤ mLimit) × (l ≤ lLimit) × (held < m * 2 ^ l) ⌝ }
     ensures { λ r. ⌜ Checked m l held (now (path .entry)) (now (reference .entry)) r ⌝ }
 {
     let form = check_path(path);

@@ -4,7 +4,7 @@ use trie_read::lookup::contains;
 ghost use Prim.Native.Nat.{_≤_};
 ghost use lib.ListN.{length};
 ghost use Rattle.trie_read.specs.Shape.{keyOf};
-ghost use Rattle.book.specs.Front.{need};
+ghost use Rattle.book.specs.Front.{need, mLimit, lLimit};
 ghost use Rattle.store_add.specs.Placed.{InTrie, LookedUp};
 
 // Does trie k have the entry?
@@ -17,7 +17,7 @@ fn trie_has(
     path: &[u8],
     reference: &[u8],
 ) -> bool
-    requires { ⌜ (m ≤ 4096) × (l ≤ 8) × (k ≤ l) × (need m l ≤ length (now store)) ⌝ }
+    requires { ⌜ (m ≤ mLimit) × (l ≤ lLimit) × (k ≤ l) × (need m l ≤ length (now store)) ⌝ }
     ensures { λ r. ⌜ InTrie m l k (keyOf (now (value .entry)) (now (path .entry)) (now (reference .entry))) (now (store .entry)) r ⌝ }
 {
     let part = trie_part(store, m, l, k);
@@ -35,7 +35,7 @@ pub(crate) fn has_entry(
     path: &[u8],
     reference: &[u8],
 ) -> bool
-    requires { ⌜ (m ≤ 4096) × (l ≤ 8) × (need m l ≤ length (now store)) ⌝ }
+    requires { ⌜ (m ≤ mLimit) × (l ≤ lLimit) × (need m l ≤ length (now store)) ⌝ }
     ensures { λ r. ⌜ LookedUp m l (keyOf (now (value .entry)) (now (path .entry)) (now (reference .entry))) (now (store .entry)) r ⌝ }
 {
     let mut k: usize = 0;

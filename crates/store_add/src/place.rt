@@ -1,18 +1,16 @@
 // Putting a new entry into the tries of a store.
 use crate::small::add_small;
 use buffer::numbers::put32;
+use store::front::HELD_AT;
 use store::part::trie_part;
 use store_overflow::overflow::overflow;
 ghost use mathlib.Core.Path.{_≡_};
 ghost use mathlib.Core.List.{[], _∷_, _++_};
 ghost use Rattle.buffer.specs.Numbers.{bytesOf};
 ghost use Rattle.rows.specs.Sizes.{valueSize};
-ghost use Rattle.store_overflow.specs.Steps.{entry};
+ghost use Rattle.rows.specs.Entry.{entry};
 ghost use Rattle.store_add.specs.Placed.{Placed, Entered};
 ghost use Rattle.store_add.specs.Ready.{Ready};
-
-// Where the held number stands in the front.
-const HELD_AT: usize = 12;
 
 // The small trie takes the entry in, until that brings it to M entries: then a level does. `bytes` and `ended` are those of the value and of
 // the path with its end byte.

@@ -10,7 +10,7 @@ ghost use Prim.Native.Nat.{_+_, _*_, _≤_, _<_};
 ghost use lib.ListN.{length};
 ghost use Rattle.buffer.specs.Sizes.{referenceSize};
 ghost use Rattle.trie_read.specs.Shape.{keyOf};
-ghost use Rattle.book.specs.Front.{frontRoom, entryRoom};
+ghost use Rattle.book.specs.Front.{frontRoom, entryRoom, mLimit};
 ghost use Rattle.store_add.specs.Small.{SmallGrown};
 
 // The most bytes that an addition takes beside those of the key.
@@ -25,7 +25,7 @@ pub(crate) fn add_small(
     path: &[u8],
     reference: &[u8],
 )
-    requires { ⌜ (m ≤ 4096) × (frontRoom + entryRoom * m ≤ length (now store)) × (used ≤ entryRoom * m) ⌝ }
+    requires { ⌜ (m ≤ mLimit) × (frontRoom + entryRoom * m ≤ length (now store)) × (used ≤ entryRoom * m) ⌝ }
     requires { ⌜ (length (now value) < 256) × (length (now path) < 256) × (length (now reference) ≡ referenceSize) ⌝ }
     ensures { λ _.
         ⌜ SmallGrown m used (keyOf (now (value .entry)) (now (path .entry)) (now (reference .entry))) (now (store .entry)) (now (store .exit)) ⌝ }

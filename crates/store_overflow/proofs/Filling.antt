@@ -11,7 +11,7 @@ use lib.Seq.{take-at, take-all}
 use Rattle.buffer.specs.Lists.{all, flat}
 use Rattle.buffer.specs.Splice.{splice, region}
 use Rattle.buffer.proofs.Lists.{map-append}
-use Rattle.buffer.proofs.Splice.{splice-then, splice-front, length-splice, drop-at-splice}
+use Rattle.buffer.proofs.Splice.{splice-then, splice-front, length-splice, drop-at-splice, splice-under}
 use Rattle.matcher.specs.Bytes.{pathLimit}
 use Rattle.rows.specs.Sizes.{referenceSize, rowSize}
 use Rattle.rows.specs.Entry.{Entry, fitsRow}
@@ -20,6 +20,7 @@ use Rattle.rows.specs.Sorted.{sorted}
 use Rattle.rows.specs.Records.{records}
 use Rattle.rows.proofs.Rows.{sorted-records}
 use Rattle.rows.proofs.Sorted.{all-sorted}
+use Rattle.rows.proofs.Records.{records-append}
 use Rattle.trie_theory.specs.Forest.{Key, Forest}
 use Rattle.trie_theory.specs.Level.{levelOf}
 use Rattle.trie_theory.specs.Encode.{encode}
@@ -39,9 +40,9 @@ use Rattle.book.proofs.EntryKeys.{keys-of-entries}
 use Rattle.store.specs.Parts.{regionAt, regionSize, numbered, upTo}
 use Rattle.store.proofs.Places.{region-within, good-numbered}
 use Rattle.store_overflow.specs.Steps.{slotsAt, levelBytes, FirstGathered, Filled}
-use Rattle.store_overflow.proofs.Placing.{splice-under, length-put, put-short}
+use Rattle.store_overflow.proofs.Placing.{length-put, put-short}
 use Rattle.store_overflow.proofs.LevelBytes.{length-level}
-use Rattle.store_overflow.proofs.FirstTries.{entries-next, records-append}
+use Rattle.store_overflow.proofs.FirstTries.{entries-next}
 
 -- ---- the most entries of level j
 
@@ -129,7 +130,7 @@ module _ (m l τ j k x n : ℕ) (e : Entry) (short : length (e .path) ≤ pathLi
       let rest = drop (slots + length both) s in
       ap (λ (t : List ℕ). records slotSize (n + 1) (drop slots t)) second
       ∙ ap (records slotSize (n + 1)) (drop-at-splice s slots both inside ∙ append-assoc (g .bytes) (slot e) rest)
-      ∙ records-append n 1 (g .bytes) (slot e ++ rest) (g .long)
+      ∙ records-append slotSize n 1 (g .bytes) (slot e ++ rest) (g .long)
       ∙ ap (λ (r : List ℕ). records slotSize n (g .bytes) ++ (r ∷ [])) (take-at (slot e) rest slotSize (length-put e short twenty))
 
   pub short-slots : shortPaths (n + 1) (drop slots s₂) ≡ true

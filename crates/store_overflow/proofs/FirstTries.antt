@@ -1,20 +1,18 @@
 -- The entries of one trie more behind those gathered. Assumes nothing.
-use Prim.Native.Nat.{ℕ, zero, suc, _+_, _*_, _-_, _≤_}
+use Prim.Native.Nat.{ℕ, suc, _+_, _*_, _-_, _≤_}
 use mathlib.Core.Path.{_≡_, refl, sym, ap, ap₂, subst, _∙_}
-use mathlib.Core.List.{List, [], _∷_, _++_, append-assoc, append-nil, map}
+use mathlib.Core.List.{List, [], _++_, map}
 use native.Mathlib.Omega.{arith}
-use native.Mathlib.Nat.{zero-add, suc-add}
-use lib.ListN.{length, take, drop, length-append, length-drop}
-use lib.Seq.{take-append-le, drop-append-le}
+use lib.ListN.{length, length-append}
 use Rattle.buffer.specs.Lists.{flat}
 use Rattle.buffer.proofs.Splice.{splice-nil, splice-then, region-before}
-use Rattle.rows.specs.Entry.{Entry}
 use Rattle.rows.specs.Records.{records}
+use Rattle.rows.proofs.Records.{records-append}
 use Rattle.trie_theory.specs.Forest.{Forest}
 use Rattle.entries.specs.Slots.{slotSize, slot, shortPath}
 use Rattle.trie_read.specs.Shape.{part}
 use Rattle.gather.specs.Gathered.{Gathered}
-use Rattle.buffer.proofs.Lists.{tested-append}
+use Rattle.buffer.proofs.Lists.{tested-append, flat-map-append, flat-map-next}
 use Rattle.book.specs.Front.{Front}
 use Rattle.book.specs.Tries.{Tries}
 use Rattle.book.specs.FromTries.{entriesOf}
@@ -25,29 +23,10 @@ use Rattle.store.specs.Parts.{numbered, upTo, PartOf}
 use Rattle.store.proofs.Places.{upTo-next, good-numbered, good-regular}
 use Rattle.store_overflow.specs.Steps.{FirstGathered}
 
-flat-map-append : {A B : Type 0} (g : A → List B) (xs ys : List A) → flat (map g (xs ++ ys)) ≡ flat (map g xs) ++ flat (map g ys)
-unfolding flat
-flat-map-append g [] ys = refl
-flat-map-append g (x ∷ xs) ys = ap (λ (l : List _). g x ++ l) (flat-map-append g xs ys) ∙ sym (append-assoc (g x) (flat (map g xs)) (flat (map g ys)))
-
-flat-map-one : {A B : Type 0} (g : A → List B) (x : A) → flat (map g (x ∷ [])) ≡ g x
-unfolding flat
-flat-map-one g x = append-nil (g x)
-
 -- the entries of one trie more
 pub entries-next : (k : ℕ) (t : Tries) → flat (map entriesOf (upTo (suc k) t)) ≡ flat (map entriesOf (upTo k t)) ++ entriesOf (numbered t k)
 entries-next k t =
-    ap (λ (fs : List Forest). flat (map entriesOf fs)) (upTo-next k t) ∙ flat-map-append entriesOf (upTo k t) (numbered t k ∷ [])
-    ∙ ap (λ (es : List Entry). flat (map entriesOf (upTo k t)) ++ es) (flat-map-one entriesOf (numbered t k))
-
-pub records-append : (n r : ℕ) (a b : List ℕ) → length a ≡ n * slotSize → records slotSize (n + r) (a ++ b)
-    ≡ records slotSize n a ++ records slotSize r b
-unfolding records
-records-append zero r [] b h = rw (zero-add r)
-records-append zero r (x ∷ a) b h = absurd (omega arith)
-records-append (suc n) r a b h =
-    rw (suc-add n r, take-append-le slotSize a b (omega arith), drop-append-le slotSize a b (omega arith))
-    (ap (_∷_ (take slotSize a)) (records-append n r (drop slotSize a) b (rw (length-drop slotSize a) (omega arith))))
+    ap (λ (fs : List Forest). flat (map entriesOf fs)) (upTo-next k t) ∙ flat-map-next entriesOf (upTo k t) (numbered t k)
 
 -- none yet
 pub gathered-none : (m l k out room : ℕ) (s : List ℕ) → k ≡ 0 → FirstGathered m l k out room s s 0
@@ -94,7 +73,7 @@ module _ (m l k from to out room n r : ℕ) (s s₁ s₂ : List ℕ) (p : PartOf
             (omega (arith, a .long)) (omega (arith, a .long, a .most));
         long = omega (arith, length-append (a .bytes) (g .bytes), a .long, g .long);
         most = omega (arith, a .most, g .most);
-        short = rw (records-append n r (a .bytes) (g .bytes) (a .long))
+        short = rw (records-append slotSize n r (a .bytes) (g .bytes) (a .long))
             (tested-append shortPath (records slotSize n (a .bytes)) (records slotSize r (g .bytes)) (a .short) (g .short));
         entries = λ f t em el good h. rw (entries-next k t) (those f t em el good h);
       }

@@ -5,17 +5,15 @@ use mathlib.Core.Bool.{true}
 use mathlib.Core.List.{List, [], _++_, map}
 use native.Mathlib.Omega.{arith}
 use lib.ListN.{length, take, drop, replicate, length-append, length-drop, length-replicate}
-use lib.Seq.{length-take-le}
-use borrow.Author.Tests.{eq-eqb}
 use Rattle.buffer.specs.Lists.{all, flat}
 use Rattle.buffer.specs.Splice.{splice, region}
-use Rattle.buffer.proofs.Splice.{length-splice, drop-at-splice}
+use Rattle.buffer.proofs.Splice.{length-splice, drop-at-splice, splice-under}
 use Rattle.buffer.proofs.Tests.{and-left, and-right, and-both}
 use Rattle.rows.specs.Order.{recordOrder}
 use Rattle.rows.specs.Sorted.{sorted}
 use Rattle.rows.specs.Records.{records}
 use Rattle.rows.proofs.Sorted.{all-sorted, length-sorted}
-use Rattle.rows.proofs.Records.{wide, length-joined, length-records, records-joined}
+use Rattle.rows.proofs.Records.{wide, length-joined, length-records, records-joined, records-wide}
 use Rattle.trie_theory.specs.Forest.{Key}
 use Rattle.trie_theory.specs.Level.{levelOf}
 use Rattle.trie_theory.specs.Encode.{encode}
@@ -28,14 +26,6 @@ use Rattle.trie_build.proofs.Frames.{built-over}
 use Rattle.book.specs.Front.{entryRoom}
 use Rattle.book.specs.Image.{padded}
 use Rattle.store_overflow.specs.Steps.{slotsAt, levelBytes}
-use Rattle.store_overflow.proofs.Placing.{splice-under}
-
-records-wide : (n : ℕ) (t : List ℕ) → n * slotSize ≤ length t → all (wide slotSize) (records slotSize n t) ≡ true
-unfolding records
-records-wide zero t h = refl
-records-wide (suc n) t h =
-    and-both (eq-eqb (length (take slotSize t)) slotSize (length-take-le slotSize t (omega arith)))
-    (records-wide n (drop slotSize t) (rw (length-drop slotSize t) (omega arith)))
 
 -- fewer slots
 pub fewer-short : (k n : ℕ) (t : List ℕ) → k ≤ n → shortPaths n t ≡ true → shortPaths k t ≡ true
@@ -61,7 +51,7 @@ module _ (s : List ℕ) (slots n : ℕ) (h : slots + n * slotSize ≤ length s) 
 
   wide-are : all (wide slotSize) rs ≡ true
   wide-are = all-sorted recordOrder (wide slotSize) (records slotSize n (drop slots s))
-      (records-wide n (drop slots s) (rw (length-drop slots s) (omega arith)))
+      (records-wide slotSize n (drop slots s) (rw (length-drop slots s) (omega arith)))
 
   pub length-sorts : length (flat rs) ≡ n * slotSize
   length-sorts = length-joined slotSize rs wide-are ∙ ap (λ (k : ℕ). k * slotSize) count-is

@@ -1,4 +1,4 @@
--- The writes that make a slot, and a write over others. Assumes nothing.
+-- The writes that make a slot. Assumes nothing.
 use Prim.Native.Nat.{ℕ, _+_, _-_, _≤_}
 use mathlib.Core.Path.{_≡_, refl, sym, ap, _∙_}
 use mathlib.Core.Bool.{true}
@@ -9,19 +9,12 @@ use lib.Seq.{getD-at}
 use borrow.Author.Tests.{le-leb}
 use Rattle.buffer.specs.Splice.{splice}
 use Rattle.buffer.specs.Numbers.{bytesOf}
-use Rattle.buffer.proofs.Splice.{splice-is, splice-then, splice-snoc, take-before, drop-after}
+use Rattle.buffer.proofs.Splice.{splice-then, splice-snoc}
 use Rattle.buffer.proofs.Digits.{length-bytesOf}
 use Rattle.matcher.specs.Bytes.{pathLimit}
 use Rattle.rows.specs.Sizes.{valueSize, referenceSize, referenceAt, lengthAt, pathAt, rowSize}
 use Rattle.rows.specs.Entry.{Entry, row}
 use Rattle.entries.specs.Slots.{slotSize, slot, shortPath}
-
--- what is written over leaves nothing
-pub splice-under : (s : List ℕ) (p : ℕ) (b : List ℕ) (o : ℕ) (a : List ℕ) → o ≤ p → p + length b ≤ o + length a → o + length a ≤ length s
-    → splice (splice s p b) o a ≡ splice s o a
-splice-under s p b o a h k l =
-    let fit : p + length b ≤ length s = omega arith in
-    rw (splice-is (splice s p b) o a, splice-is s o a, take-before s p b fit o h, drop-after s p b fit (o + length a) k)
 
 module _ (e : Entry) (short : length (e .path) ≤ pathLimit) (twenty : length (e .reference) ≡ referenceSize) where
   abbrev value : List ℕ

@@ -7,8 +7,7 @@ use lib.ListN.{length, take, drop}
 use Rattle.buffer.specs.Numbers.{bytesOf}
 use Rattle.buffer.specs.Splice.{splice}
 use Rattle.rows.specs.Entry.{Entry}
-pub use Rattle.book.specs.Front.{heldAt}
-use Rattle.book.specs.Front.{frontRoom, need}
+use Rattle.book.specs.Front.{heldAt, frontRoom, need}
 use Rattle.book.specs.Digits.{small}
 use Rattle.book.specs.Book.{Book, Sound, front, put, formed}
 use Rattle.book.specs.Book as Book

@@ -21,10 +21,6 @@ use Rattle.book.specs.Image.{padded, Holds}
 use Rattle.book.specs.Good.{GoodTries}
 use Rattle.store.specs.Parts.{upTo}
 
--- the entry that an addition names
-abbrev pub entry : List ℕ → ℕ → List ℕ → Entry
-entry path value reference = record { path = path; value = value; reference = reference }
-
 -- r is the first of l digits of n that is 0, or l
 pub record FirstEmpty (l n r : ℕ) : Type 0 where
   pub most : r ≤ l

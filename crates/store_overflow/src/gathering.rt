@@ -5,7 +5,7 @@ use store::part::trie_part;
 ghost use Prim.Native.Nat.{ℕ, _+_, _*_, _≤_, _<_};
 ghost use lib.ListN.{length};
 ghost use Rattle.entries.specs.Slots.{slotSize};
-ghost use Rattle.book.specs.Front.{need};
+ghost use Rattle.book.specs.Front.{need, mLimit, lLimit};
 ghost use Rattle.store.specs.Parts.{regionAt, regionSize};
 ghost use Rattle.store_overflow.specs.Steps.{FirstGathered};
 
@@ -19,7 +19,7 @@ pub(crate) fn gather_first(
     out: usize,
     room: usize,
 ) -> usize
-    requires { ⌜ (m ≤ 4096) × (l ≤ 8) × (k ≤ l + 1) × (need m l ≤ length (now s)) × (out + room * slotSize ≤ length (now s)) × ((i : ℕ) → i < k → regionAt m i + regionSize m i ≤ out) ⌝ }
+    requires { ⌜ (m ≤ mLimit) × (l ≤ lLimit) × (k ≤ l + 1) × (need m l ≤ length (now s)) × (out + room * slotSize ≤ length (now s)) × ((i : ℕ) → i < k → regionAt m i + regionSize m i ≤ out) ⌝ }
     ensures { λ r. ⌜ FirstGathered m l k out room (now (s .entry)) (now (s .exit)) r ⌝ }
 {
     if k == 0 {

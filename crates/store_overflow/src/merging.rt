@@ -10,13 +10,13 @@ ghost use mathlib.Core.Bool.{true};
 ghost use Prim.Native.Nat.{_+_, _*_, _≤_};
 ghost use lib.ListN.{length, drop};
 ghost use Rattle.buffer.specs.Splice.{splice};
-ghost use Rattle.book.specs.Front.{entryRoom};
+ghost use Rattle.book.specs.Front.{entryRoom, entriesLimit};
 ghost use Rattle.trie_sets.specs.Sets.{shortPaths};
 ghost use Rattle.store_overflow.specs.Steps.{slotsAt, levelBytes};
 
 // The region at `base`, of a level of up to `size` entries, gets the trie of the n slots in it, and zeros behind the trie.
 pub(crate) fn merge(s: &mut [u8], base: usize, size: usize, n: usize, tau: usize)
-    requires { ⌜ (n ≤ size) × (size ≤ 1048576) × (base + entryRoom * size ≤ length (now s)) × (shortPaths n (drop (slotsAt base size) (now s)) ≡ true) ⌝ }
+    requires { ⌜ (n ≤ size) × (size ≤ entriesLimit) × (base + entryRoom * size ≤ length (now s)) × (shortPaths n (drop (slotsAt base size) (now s)) ≡ true) ⌝ }
     ensures { λ _.
         ⌜ now (s .exit) ≡ splice (now (s .entry)) base (levelBytes size tau n (drop (slotsAt base size) (now (s .entry)))) ⌝ }
 {

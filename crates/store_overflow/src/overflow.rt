@@ -14,8 +14,9 @@ ghost use Prim.Native.Nat.{_≤_, _<_};
 ghost use lib.ListN.{length};
 ghost use Rattle.matcher.specs.Bytes.{pathLimit};
 ghost use Rattle.rows.specs.Sizes.{referenceSize};
-ghost use Rattle.book.specs.Front.{need};
-ghost use Rattle.store_overflow.specs.Steps.{entry, Filled};
+ghost use Rattle.rows.specs.Entry.{entry};
+ghost use Rattle.book.specs.Front.{need, mLimit, lLimit};
+ghost use Rattle.store_overflow.specs.Steps.{Filled};
 ghost use Rattle.store_overflow.specs.Overflow.{Overflowed};
 
 // Builds level j, of l, from what lies below it and the new entry, and empties what lies below.
@@ -29,7 +30,7 @@ fn fill_level(
     value: u64,
     reference: &[u8],
 )
-    requires { ⌜ (1 ≤ m) × (m ≤ 4096) × (l ≤ 8) × (j < l) × (need m l ≤ length (now store)) × (length (now path) ≤ pathLimit) × (length (now reference) ≡ referenceSize) ⌝ }
+    requires { ⌜ (1 ≤ m) × (m ≤ mLimit) × (l ≤ lLimit) × (j < l) × (need m l ≤ length (now store)) × (length (now path) ≤ pathLimit) × (length (now reference) ≡ referenceSize) ⌝ }
     ensures { λ _.
         ⌜ Filled m l tau j (entry (now (path .entry)) value (now (reference .entry))) (now (store .entry)) (now (store .exit)) ⌝ }
 {
@@ -54,7 +55,7 @@ pub fn overflow(
     value: u64,
     reference: &[u8],
 )
-    requires { ⌜ (1 ≤ m) × (m ≤ 4096) × (l ≤ 8) × (need m l ≤ length (now store)) × (length (now path) ≤ pathLimit) × (length (now reference) ≡ referenceSize) ⌝ }
+    requires { ⌜ (1 ≤ m) × (m ≤ mLimit) × (l ≤ lLimit) × (need m l ≤ length (now store)) × (length (now path) ≤ pathLimit) × (length (now reference) ≡ referenceSize) ⌝ }
     ensures { λ _.
         ⌜ Overflowed m l tau held (entry (now (path .entry)) value (now (reference .entry))) (now (store .entry)) (now (store .exit)) ⌝ }
 {

@@ -12,8 +12,8 @@ ghost use lib.ListN.{length};
 ghost use Rattle.buffer.specs.Splice.{splice};
 ghost use Rattle.matcher.specs.Bytes.{pathLimit};
 ghost use Rattle.rows.specs.Sizes.{referenceSize};
+ghost use Rattle.rows.specs.Entry.{entry};
 ghost use Rattle.entries.specs.Slots.{slotSize, slot};
-ghost use Rattle.store_overflow.specs.Steps.{entry};
 
 // What stands behind the place of a path's first byte.
 const PATH_ROOM: usize = SLOT_SIZE - PATH_AT;

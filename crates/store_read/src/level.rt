@@ -4,6 +4,7 @@ use store::front::Opened;
 use store::front::open;
 use store::part::trie_part;
 use store::reply::Reply;
+use store::reply::plain_reply;
 ghost use Rattle.book.specs.Promises.{ReadsLevel};
 ghost use Rattle.store.specs.Said.{said};
 
@@ -20,16 +21,8 @@ pub fn read_level(store: &[u8], level: u64, answer: &mut [u8]) -> Reply
                 let to = part.to;
                 return list_records(&store[from..to], f.held, answer);
             }
-            Reply {
-                number: 0,
-                first: 0,
-                second: 0,
-            }
+            plain_reply(0, 0)
         }
-        Opened::Missing => Reply {
-            number: 4,
-            first: 0,
-            second: 0,
-        },
+        Opened::Missing => plain_reply(4, 0),
     }
 }

@@ -2,22 +2,26 @@
 use mathlib.Core.Path.{_≡_, refl, sym, ap, _∙_}
 use mathlib.Core.Bool.{true, false}
 use Prim.Native.Nat.{ℕ, zero, suc, _≤_, _<_}
-use mathlib.Core.List.{List, [], _∷_}
+use mathlib.Core.List.{List, [], _∷_, map}
 use native.Mathlib.Omega.{arith}
-use lib.ListN.{length}
+use lib.ListN.{length, length-map}
 use lib.Dec.{ltb}
 use borrow.Author.Tests.{lt-ltb, le-ltb}
 use Rattle.buffer.specs.Lists.{pick}
+use Rattle.buffer.proofs.Sums.{length-pick, count-most}
 use Rattle.matcher.specs.Form.{patternForm, patternNumber, isFine}
 use Rattle.matcher.specs.declared.form.Form.{Form}
 use Rattle.matcher.specs.declared.form.Form.the-variants.{Fine, TooLong, Malformed}
+use Rattle.rows.specs.Sizes.{rowSize}
+use Rattle.rows.specs.Entry.{row}
 use Rattle.rows.specs.Order.{entryOrder}
+use Rattle.rows.specs.Sorted.{sorted}
 use Rattle.rows.proofs.Sorted.{length-sorted}
 use Rattle.entries.specs.Query.{Query, matchesEntry}
 use Rattle.book.specs.Front.{Front, frontOf, noStore}
 use Rattle.book.specs.Book.{Book, Sound, held, front}
 use Rattle.book.specs.Tries.{tries}
-use Rattle.book.specs.Searching.{matching}
+use Rattle.book.specs.Searching.{matching, nodesOf}
 use Rattle.book.specs.Replies.{Reply, reply, result, firstOf, _when_, searchNumber}
 use Rattle.book.specs.Calls.{search}
 use Rattle.book.specs.Step.{step}
@@ -26,13 +30,13 @@ use Rattle.book.specs.FromTries.{foundIn, searchTries}
 use Rattle.book.specs.Promises.{Searches}
 use Rattle.book.proofs.Numbers.{search-short}
 use Rattle.book.proofs.OneCall.{front-read}
-use Rattle.book.proofs.Listed.{length-pick, count-most}
 use Rattle.book.proofs.OverTries.{rows-found}
 use Rattle.book.proofs.FromTries.{search-tries}
 use Rattle.book.proofs.Good.{tries-good}
 use Rattle.store.specs.Opening.{Reads}
 use Rattle.store.specs.declared.front.Front as Code
-use Rattle.store_search.specs.Listing.{queryNumber, Listed}
+use Rattle.store.specs.Listing.{Listed}
+use Rattle.store_search.specs.Listing.{queryNumber, RowsOf}
 
 -- ---- the query's own checks
 
@@ -115,19 +119,33 @@ few-found b s q =
     )
 
 module _ {q : Query} {store answer filled : List ℕ} {g : Code.Front} {x : Reply} (r : Reads store g)
-    (h : noStore (length store) (frontOf store) ≡ false) (z : queryNumber q ≡ 0) (w : Listed q store (g .m) (g .l) (g .held) answer filled x) where
+    (h : noStore (length store) (frontOf store) ≡ false) (z : queryNumber q ≡ 0) (w : Listed rowSize (RowsOf q store (g .m) (g .l)) (g .held) answer filled x) where
   none : searchNumber (length store) (frontOf store) q ≡ 0
   none = search-number (length store) (frontOf store) q h ∙ z
 
   of-book : (b : Book) → HoldsBook store b → result x filled ≡ step b (search (length store) q answer) .result
+  unfolding searchTries
   of-book b hb =
       let f : frontOf store ≡ front b = front-read hb in
       let m : b .M ≡ g .m = sym (r .m-is ∙ ap (λ (y : Front). y .M) f) in
       let l : b .L ≡ g .l = sym (r .l-is ∙ ap (λ (y : Front). y .L) f) in
       let n : held b ≡ g .held = sym (r .held-is ∙ ap (λ (y : Front). y .held) f) in
-      let few : length (foundIn q (g .l) (tries b)) ≤ g .held = rw (← l, ← n) (few-found b (hb .sound) q) in
+      let found = foundIn q (g .l) (tries b) in
+      let few : length found ≤ g .held = rw (← l, ← n) (few-found b (hb .sound) q) in
+      let rows-few : length (map row (sorted entryOrder found)) ≤ g .held = omega (arith, length-map (sorted entryOrder found) row, length-sorted entryOrder found) in
       let none-of-book : searchNumber (length store) (front b) q ≡ 0 = ap (λ (y : Front). searchNumber (length store) y q) (sym f) ∙ none in
-      w .ours (front b) (tries b) m l (tries-good b (hb .sound)) (hb .holds) few
+      w .ours (map row (sorted entryOrder found)) (nodesOf q (g .l) (tries b))
+      (record {
+        front = front b;
+        tries = tries b;
+        m-is = m;
+        l-is = l;
+        good = tries-good b (hb .sound);
+        holds = hb .holds;
+        rows-are = refl;
+        nodes-are = refl;
+      })
+      rows-few
       ∙ ap (λ (k : ℕ). searchTries q k (tries b) answer) (sym l)
       ∙ sym (search-tries b (hb .sound) (length store) q answer none-of-book)
 

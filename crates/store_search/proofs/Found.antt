@@ -1,17 +1,17 @@
 -- What a search finds in the tries of a store, one trie after another. Assumes nothing.
 use mathlib.Core.Path.{_≡_, refl, sym, ap, _∙_, subst}
 use Prim.Native.Nat.{ℕ, zero, suc, _+_, _^_, _≤_}
-use mathlib.Core.List.{List, [], _∷_, _++_, append-assoc, append-nil, map}
+use mathlib.Core.List.{List, [], _∷_, _++_, map}
 use native.Mathlib.Omega.{arith}
 use native.Mathlib.Numerals.{add-one}
 use lib.ListN.{length, take, length-append, length-map}
 use lib.Seq.{take-nil}
-use Rattle.buffer.specs.Lists.{All, nil, all, sum, flat}
+use Rattle.buffer.specs.Lists.{All, nil, sum, flat}
 use Rattle.buffer.specs.Splice.{splice}
-use Rattle.buffer.proofs.Lists.{all-imp, all-append, all-pick, all-test, map-append}
+use Rattle.buffer.proofs.Lists.{all-imp, all-append, all-pick, all-test, flat-map-next, map-flat-map, tested-append}
 use Rattle.buffer.proofs.Splice.{splice-nil}
 use Rattle.buffer.proofs.Sums.{sum-append}
-use Rattle.trie_theory.specs.Forest.{Key, Forest, keys}
+use Rattle.trie_theory.specs.Forest.{Key, Forest}
 use Rattle.trie_theory.specs.Dimensions.{root}
 use Rattle.trie_theory.specs.Entries as Key
 use Rattle.trie_theory.specs.Search.{found, nodesEntered}
@@ -22,11 +22,10 @@ use Rattle.trie_read.specs.Shape.{part}
 use Rattle.trie_read.proofs.Stretch.{length-part}
 use Rattle.gather.specs.KeySlots.{hasSlot}
 use Rattle.gather.specs.Walks.{joined}
-use Rattle.buffer.proofs.Lists.{tested-append}
 use Rattle.gather.proofs.Putting.{joined-none}
 use Rattle.search.specs.Steps.{keyRow}
 use Rattle.search.specs.Searches.{TrieFound, TrieSearched}
-use Rattle.book.specs.Front.{Front, need}
+use Rattle.book.specs.Front.{Front, need, needLimit}
 use Rattle.book.specs.Tries.{Tries, every}
 use Rattle.book.specs.Searching.{nodesOf}
 use Rattle.book.specs.FromTries.{keyEntry, foundOf, foundIn}
@@ -36,20 +35,8 @@ use Rattle.book.proofs.Keys.{entry-valued}
 use Rattle.store.specs.Parts.{numbered, upTo, PartOf}
 use Rattle.store.proofs.Powers.{power-most, product-most}
 use Rattle.store.proofs.Places.{upTo-next, good-regular, good-numbered}
-use Rattle.store_search.specs.Listing.{foundUpTo, nodesUpTo, needLimit, TriesSearched}
+use Rattle.store_search.specs.Listing.{foundUpTo, nodesUpTo, TriesSearched}
 use Rattle.store_search.proofs.Keys.{rowed}
-
--- ---- lists
-
-map-flat : {A B C : Type 0} (h : B → C) (g : A → List B) (xs : List A) → map h (flat (map g xs)) ≡ flat (map (λ x. map h (g x)) xs)
-unfolding flat
-map-flat h g [] = refl
-map-flat {A} {B} {C} h g (x ∷ xs) = map-append h (g x) (flat (map g xs)) ∙ ap (λ (l : List C). map h (g x) ++ l) (map-flat h g xs)
-
-flat-next : {A B : Type 0} (g : A → List B) (xs : List A) (y : A) → flat (map g (xs ++ (y ∷ []))) ≡ flat (map g xs) ++ g y
-unfolding flat
-flat-next g [] y = append-nil (g y)
-flat-next {A} {B} g (x ∷ xs) y = ap (λ (l : List B). g x ++ l) (flat-next g xs y) ∙ sym (append-assoc (g x) (flat (map g xs)) (g y))
 
 -- ---- one trie after another
 
@@ -62,7 +49,7 @@ module _ (q : Query) where
 
   found-suc : (k : ℕ) (t : Tries) → foundUpTo q (suc k) t ≡ foundUpTo q k t ++ of-trie (numbered t k)
   unfolding foundUpTo
-  found-suc k t = ap (λ (fs : List Forest). flat (map of-trie fs)) (upTo-next k t) ∙ flat-next of-trie (upTo k t) (numbered t k)
+  found-suc k t = ap (λ (fs : List Forest). flat (map of-trie fs)) (upTo-next k t) ∙ flat-map-next of-trie (upTo k t) (numbered t k)
 
   found-next : (k : ℕ) (t : Tries) → foundUpTo q (k + 1) t ≡ foundUpTo q k t ++ of-trie (numbered t k)
   found-next k t = ap (λ (n : ℕ). foundUpTo q n t) (add-one k) ∙ found-suc k t
@@ -87,7 +74,7 @@ module _ (q : Query) where
 
   -- those of all tries
   found-all : (l : ℕ) (t : Tries) → map keyEntry (foundUpTo q (l + 1) t) ≡ foundIn q l t
-  found-all l t = ap (λ (n : ℕ). map keyEntry (foundUpTo q n t)) (add-one l) ∙ (unfold foundUpTo foundIn foundOf in map-flat keyEntry of-trie (every l t))
+  found-all l t = ap (λ (n : ℕ). map keyEntry (foundUpTo q n t)) (add-one l) ∙ (unfold foundUpTo foundIn foundOf in map-flat-map keyEntry of-trie (every l t))
 
   nodes-all : (l : ℕ) (t : Tries) → nodesUpTo q (l + 1) t ≡ nodesOf q l t
   nodes-all l t = ap (λ (n : ℕ). nodesUpTo q n t) (add-one l) ∙ (unfold nodesUpTo nodesOf in refl)

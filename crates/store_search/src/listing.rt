@@ -4,6 +4,7 @@ use rows::order::least;
 use rows::sizes::ROW_SIZE;
 use rows::sort::sort;
 use store::reply::Reply;
+use store::reply::plain_reply;
 ghost use mathlib.Core.Path.{_≡_};
 ghost use mathlib.Core.Bool.{true};
 ghost use Prim.Native.Nat.{_*_, _/_, _≤_};
@@ -11,9 +12,10 @@ ghost use lib.ListN.{length};
 ghost use Rattle.matcher.specs.Form.{patternForm, isFine};
 ghost use Rattle.rows.specs.Sizes.{rowSize};
 ghost use Rattle.search.specs.Asked.{asked};
-ghost use Rattle.book.specs.Front.{need};
+ghost use Rattle.book.specs.Front.{need, mLimit, lLimit};
 ghost use Rattle.store.specs.Said.{said};
-ghost use Rattle.store_search.specs.Listing.{Overfull, Filled, Listed};
+ghost use Rattle.store.specs.Listing.{Overfull, Filled, Listed};
+ghost use Rattle.store_search.specs.Listing.{RowsOf};
 
 // The number of rows found, where they have no room, else 0. Where all that the store says it holds have room, none has to be counted.
 fn overfull(
@@ -27,8 +29,8 @@ fn overfull(
     room: usize,
 ) -> usize
     requires { ⌜ isFine (patternForm (now pattern)) ≡ true ⌝ }
-    requires { ⌜ (m ≤ 4096) × (l ≤ 8) × (need m l ≤ length (now store)) ⌝ }
-    ensures { λ r. ⌜ Overfull (asked (now (pattern .entry)) low high) (now (store .entry)) m l held room r ⌝ }
+    requires { ⌜ (m ≤ mLimit) × (l ≤ lLimit) × (need m l ≤ length (now store)) ⌝ }
+    ensures { λ r. ⌜ Overfull (RowsOf (asked (now (pattern .entry)) low high) (now (store .entry)) m l) held room r ⌝ }
 {
     if held <= room {
         return 0;
@@ -54,9 +56,9 @@ fn fill(
     room: usize,
 ) -> Reply
     requires { ⌜ isFine (patternForm (now pattern)) ≡ true ⌝ }
-    requires { ⌜ (m ≤ 4096) × (l ≤ 8) × (need m l ≤ length (now store)) × (room * rowSize ≤ length (now answer)) ⌝ }
+    requires { ⌜ (m ≤ mLimit) × (l ≤ lLimit) × (need m l ≤ length (now store)) × (room * rowSize ≤ length (now answer)) ⌝ }
     ensures { λ r.
-        ⌜ Filled (asked (now (pattern .entry)) low high) (now (store .entry)) m l room (now (answer .entry)) (now (answer .exit)) (said r) ⌝ }
+        ⌜ Filled rowSize (RowsOf (asked (now (pattern .entry)) low high) (now (store .entry)) m l) room (now (answer .entry)) (now (answer .exit)) (said r) ⌝ }
 {
     let found = search_tries(store, m, l, pattern, low, high, answer, room);
     let rows = least(found.rows, room);
@@ -80,18 +82,14 @@ pub(crate) fn list_rows(
     answer: &mut [u8],
 ) -> Reply
     requires { ⌜ isFine (patternForm (now pattern)) ≡ true ⌝ }
-    requires { ⌜ (m ≤ 4096) × (l ≤ 8) × (need m l ≤ length (now store)) ⌝ }
+    requires { ⌜ (m ≤ mLimit) × (l ≤ lLimit) × (need m l ≤ length (now store)) ⌝ }
     ensures { λ r.
-        ⌜ Listed (asked (now (pattern .entry)) low high) (now (store .entry)) m l held (now (answer .entry)) (now (answer .exit)) (said r) ⌝ }
+        ⌜ Listed rowSize (RowsOf (asked (now (pattern .entry)) low high) (now (store .entry)) m l) held (now (answer .entry)) (now (answer .exit)) (said r) ⌝ }
 {
     let room = answer.len() / ROW_SIZE;
     let rows = overfull(store, m, l, held, pattern, low, high, room);
     if rows > 0 {
-        return Reply {
-            number: 11,
-            first: rows as u64,
-            second: 0,
-        };
+        return plain_reply(11, rows);
     }
     fill(store, m, l, pattern, low, high, answer, room)
 }

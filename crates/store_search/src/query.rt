@@ -5,6 +5,7 @@ use matcher::form::pattern_number;
 use store::front::Opened;
 use store::front::open;
 use store::reply::Reply;
+use store::reply::plain_reply;
 ghost use mathlib.Core.Path.{_≡_};
 ghost use Rattle.search.specs.Asked.{asked};
 ghost use Rattle.book.specs.Promises.{Searches};
@@ -35,18 +36,10 @@ pub fn search(store: &[u8], pattern: &[u8], low: u64, high: u64, answer: &mut [u
         Opened::Store(f) => {
             let refusal = query_number(pattern, low, high);
             if refusal > 0 {
-                return Reply {
-                    number: refusal,
-                    first: 0,
-                    second: 0,
-                };
+                return plain_reply(refusal, 0);
             }
             list_rows(store, f.m, f.l, f.held, pattern, low, high, answer)
         }
-        Opened::Missing => Reply {
-            number: 4,
-            first: 0,
-            second: 0,
-        },
+        Opened::Missing => plain_reply(4, 0),
     }
 }

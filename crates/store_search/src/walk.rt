@@ -9,7 +9,7 @@ ghost use lib.ListN.{length};
 ghost use Rattle.matcher.specs.Form.{patternForm, isFine};
 ghost use Rattle.rows.specs.Sizes.{rowSize};
 ghost use Rattle.search.specs.Asked.{asked};
-ghost use Rattle.book.specs.Front.{need};
+ghost use Rattle.book.specs.Front.{need, mLimit, lLimit};
 ghost use Rattle.store_search.specs.Listing.{TriesSearched};
 
 // Searches the small trie and every level. Of the rows found it writes the first `room` into the answer, and counts all.
@@ -24,7 +24,7 @@ pub(crate) fn search_tries(
     room: usize,
 ) -> Found
     requires { ⌜ isFine (patternForm (now pattern)) ≡ true ⌝ }
-    requires { ⌜ (m ≤ 4096) × (l ≤ 8) × (need m l ≤ length (now store)) × (room * rowSize ≤ length (now answer)) ⌝ }
+    requires { ⌜ (m ≤ mLimit) × (l ≤ lLimit) × (need m l ≤ length (now store)) × (room * rowSize ≤ length (now answer)) ⌝ }
     ensures { λ r.
         ⌜ TriesSearched (asked (now (pattern .entry)) low high) (now (store .entry)) m l (l + 1) room (now (answer .entry)) (now (answer .exit)) (r .rows) (r .nodes) ⌝ }
 {

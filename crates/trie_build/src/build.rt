@@ -21,20 +21,20 @@ ghost use Rattle.trie_sets.specs.Sets.{keysOf, shortPaths};
 ghost use Rattle.trie_build.specs.Build.{entryRoom, Built};
 ghost use Rattle.trie_build.specs.Steps.{Ready, trieBytes, columnOf, Run, Opened};
 
-// How many of the first slots have the first one's byte in a column.
+// How many slots more, behind the first, have its byte in a column.
 fn run(slots: &[u8], n: usize, column: usize) -> usize
     requires { ⌜ (0 < n) × (n * slotSize ≤ length (now slots)) × (column < slotSize) ⌝ }
-    ensures { λ r. ⌜ Run (now (slots .entry)) n column r ⌝ }
+    ensures { λ r. ⌜ Run (now (slots .entry)) n column (r + 1) ⌝ }
 {
     let byte = slots[column];
-    let mut k: usize = 1;
-    while k < n {
-        if slots[k * SLOT_SIZE + column] != byte {
-            return k;
+    let mut more: usize = 0;
+    while more + 1 < n {
+        if slots[(more + 1) * SLOT_SIZE + column] != byte {
+            return more;
         }
-        k += 1;
+        more += 1;
     }
-    k
+    more
 }
 
 // Where in a slot the byte stands at which the keys of a node part.
@@ -103,9 +103,9 @@ fn build(
     let mut o = body;
     while i < n {
         let from = slots + i * SLOT_SIZE;
-        let m = run(&s[from..end], n - i, column);
-        o = build(s, o, from, scratch, m, tau, kind, value, path);
-        i += m;
+        let more = run(&s[from..end], n - i, column);
+        o = build(s, o, from, scratch, more + 1, tau, kind, value, path);
+        i += more + 1;
     }
     put_head(s, out, kind, value - vabove, path - pabove, o - body);
     o

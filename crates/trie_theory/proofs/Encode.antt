@@ -25,10 +25,10 @@ sound-regular n above k (leaf s ts more) h a = (
   all-both (h .2) (all-unmap (under (join k s)) (λ t e. e) ts (all-left (map (under (join k s)) ts) (keys k more) a)),
   sound-regular n above k more (h .3) (all-right (map (under (join k s)) ts) (keys k more) a),
 )
-sound-regular n above k (inner d s kids more) h a = (
+sound-regular n above k (inner d s children more) h a = (
   h .0 .wide,
-  sound-regular n (below d) (join k s) kids (h .2) (all-left (keys (join k s) kids) (keys k more) a),
-  sound-regular n above k more (h .3) (all-right (keys (join k s) kids) (keys k more) a),
+  sound-regular n (below d) (join k s) children (h .2) (all-left (keys (join k s) children) (keys k more) a),
+  sound-regular n above k more (h .3) (all-right (keys (join k s) children) (keys k more) a),
 )
 
 length-flat : (ss : Strings) → length (flat ss) ≡ total ss
@@ -81,13 +81,13 @@ length-encode n (leaf s ts more) h =
       length-suffixes n (h .1),
       length-encode n more (h .2),
     )
-length-encode n (inner d s kids more) h =
+length-encode n (inner d s children more) h =
     omega (
       arith,
-      length-append (nodeBytes (suc d) s (encode kids)) (encode more),
-      length-node (suc d) s (encode kids),
+      length-append (nodeBytes (suc d) s (encode children)) (encode more),
+      length-node (suc d) s (encode children),
       h .0,
-      length-encode n kids (h .1),
+      length-encode n children (h .1),
       length-encode n more (h .2),
     )
 
@@ -167,7 +167,7 @@ pub encode-injective : (n : ℕ) (f g : Forest) → Regular n f → Regular n g 
 unfolding Regular encode nodeBytes
 encode-injective n none none h w e = refl
 encode-injective n none (leaf s ts more) h w e = absurd (let z : _≡_ {A = ℕ} 0 1 = cc in omega arith)
-encode-injective n none (inner d s kids more) h w e = absurd (let z : _≡_ {A = ℕ} 0 1 = cc in omega arith)
+encode-injective n none (inner d s children more) h w e = absurd (let z : _≡_ {A = ℕ} 0 1 = cc in omega arith)
 encode-injective n (leaf s ts more) none h w e = absurd (let z : _≡_ {A = ℕ} 0 1 = cc in omega arith)
 encode-injective n (leaf s ts more) (leaf s′ ts′ more′) h w e =
     let p = node-parts 0 0 s s′ (flat (map suffixBytes ts)) (flat (map suffixBytes ts′)) (encode more) (encode more′)
@@ -175,12 +175,12 @@ encode-injective n (leaf s ts more) (leaf s′ ts′ more′) h w e =
     let q = suffixes-parts n (h .1) (w .1) (p .body) in
     let r = encode-injective n more more′ (h .2) (w .2) (p .more) in
     rw (p .strings, q, r) refl
-encode-injective n (leaf s ts more) (inner d s′ kids′ more′) h w e = absurd (let z : 0 ≡ suc d = cc in omega arith)
-encode-injective n (inner d s kids more) none h w e = absurd (let z : _≡_ {A = ℕ} 0 1 = cc in omega arith)
-encode-injective n (inner d s kids more) (leaf s′ ts′ more′) h w e = absurd (let z : suc d ≡ 0 = cc in omega arith)
-encode-injective n (inner d s kids more) (inner d′ s′ kids′ more′) h w e =
-    let p = node-parts (suc d) (suc d′) s s′ (encode kids) (encode kids′) (encode more) (encode more′) (h .0 ∙ sym (w .0)) e in
+encode-injective n (leaf s ts more) (inner d s′ children′ more′) h w e = absurd (let z : 0 ≡ suc d = cc in omega arith)
+encode-injective n (inner d s children more) none h w e = absurd (let z : _≡_ {A = ℕ} 0 1 = cc in omega arith)
+encode-injective n (inner d s children more) (leaf s′ ts′ more′) h w e = absurd (let z : suc d ≡ 0 = cc in omega arith)
+encode-injective n (inner d s children more) (inner d′ s′ children′ more′) h w e =
+    let p = node-parts (suc d) (suc d′) s s′ (encode children) (encode children′) (encode more) (encode more′) (h .0 ∙ sym (w .0)) e in
     let i : d ≡ d′ = let z = p .kind in omega arith in
-    let q = encode-injective n kids kids′ (h .1) (w .1) (p .body) in
+    let q = encode-injective n children children′ (h .1) (w .1) (p .body) in
     let r = encode-injective n more more′ (h .2) (w .2) (p .more) in
     rw (i, p .strings, q, r) refl

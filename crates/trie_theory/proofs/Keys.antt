@@ -23,9 +23,9 @@ keys-under k s none = refl
 keys-under k s (leaf t ts more) =
     ap₂ _++_ (ap (λ (l : Strings). map (under l) ts) (join-assoc k s t) ∙ unders k (join s t) ts) (keys-under k s more)
     ∙ sym (map-append (under k) (map (under (join s t)) ts) (keys s more))
-keys-under k s (inner d t kids more) =
-    ap₂ _++_ (ap (λ (l : Strings). keys l kids) (join-assoc k s t) ∙ keys-under k (join s t) kids) (keys-under k s more)
-    ∙ sym (map-append (under k) (keys (join s t) kids) (keys s more))
+keys-under k s (inner d t children more) =
+    ap₂ _++_ (ap (λ (l : Strings). keys l children) (join-assoc k s t) ∙ keys-under k (join s t) children) (keys-under k s more)
+    ∙ sym (map-append (under k) (keys (join s t) children) (keys s more))
 
 pub keys-from : (s : Strings) (f : Forest) → keys s f ≡ map (under s) (keys [] f)
 keys-from s f = ap (λ (l : Strings). keys l f) (sym (join-nil s)) ∙ keys-under s [] f
@@ -42,7 +42,7 @@ pub all-keys : (k : Strings) (f : Forest) → All (From k) (keys k f)
 unfolding keys
 all-keys k none = nil
 all-keys k (leaf s ts more) = all-append (from-join k s (from-under (join k s) ts)) (all-keys k more)
-all-keys k (inner d s kids more) = all-append (from-join k s (all-keys (join k s) kids)) (all-keys k more)
+all-keys k (inner d s children more) = all-append (from-join k s (all-keys (join k s) children)) (all-keys k more)
 
 -- what remains of a key behind p, below p, is the key
 pub under-remains : (p : Strings) (x : Key) → From p x → under p (remains p x) ≡ x

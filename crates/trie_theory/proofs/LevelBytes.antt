@@ -15,20 +15,20 @@ use Rattle.trie_theory.specs.Encode.{suffixBytes, nodeBytes, encode}
 use Rattle.trie_theory.proofs.LevelStep.{trie-step}
 
 -- a node's bytes, then those of its siblings
-node-more : (k : Strings) (ks : List Key) (o : Option ℕ) (kids : ℕ → Forest) (more : Forest)
-    → encode (node k ks o kids more) ≡ encode (node k ks o kids Forest.none) ++ encode more
+node-more : (k : Strings) (ks : List Key) (o : Option ℕ) (children : ℕ → Forest) (more : Forest)
+    → encode (node k ks o children more) ≡ encode (node k ks o children Forest.none) ++ encode more
 unfolding node encode
-node-more k ks none kids more =
+node-more k ks none children more =
     ap (λ (b : List ℕ). b ++ encode more) (sym (append-nil (nodeBytes 0 (strip k (shared ks)) (flat (map suffixBytes (map (remains (shared ks)) ks))))))
-node-more k ks (some d) kids more =
-    ap (λ (b : List ℕ). b ++ encode more) (sym (append-nil (nodeBytes (suc d) (strip k (shared ks)) (encode (kids d)))))
+node-more k ks (some d) children more =
+    ap (λ (b : List ℕ). b ++ encode more) (sym (append-nil (nodeBytes (suc d) (strip k (shared ks)) (encode (children d)))))
 
 module _ (n τ : ℕ) where
   trie-more : (above : Above) (k : Strings) (ks : List Key) (more : Forest)
       → encode (trie n τ above k ks more) ≡ encode (trie n τ above k ks Forest.none) ++ encode more
   trie-more above k ks more =
-      let kids : ℕ → Forest = λ d. each (trie n τ (below d) (shared ks)) (parts d ks) in
-      ap encode (trie-step n τ above k ks more) ∙ node-more k ks (choice n τ above ks) kids more
+      let children : ℕ → Forest = λ d. each (trie n τ (below d) (shared ks)) (parts d ks) in
+      ap encode (trie-step n τ above k ks more) ∙ node-more k ks (choice n τ above ks) children more
       ∙ ap (λ (b : List ℕ). b ++ encode more) (sym (ap encode (trie-step n τ above k ks Forest.none)))
 
   -- the bytes of one trie

@@ -36,17 +36,17 @@ module _ (n τ : ℕ) (h : Key → ℕ) where
       ∙ sym (sum-append h (x ∷ xs) (flat ps))
 
   -- a node has the keys of its set, an inner one if its children have
-  node-sum : (k : Strings) (ks : List Key) (o : Option ℕ) (kids : ℕ → Forest) (more : Forest) → Prefixes k (shared ks)
-      → ((d : ℕ) → o ≡ some d → sum h (keys (shared ks) (kids d)) ≡ sum h ks)
-      → sum h (keys k (node k ks o kids more)) ≡ sum h ks + sum h (keys k more)
+  node-sum : (k : Strings) (ks : List Key) (o : Option ℕ) (children : ℕ → Forest) (more : Forest) → Prefixes k (shared ks)
+      → ((d : ℕ) → o ≡ some d → sum h (keys (shared ks) (children d)) ≡ sum h ks)
+      → sum h (keys k (node k ks o children more)) ≡ sum h ks + sum h (keys k more)
   unfolding keys node
-  node-sum k ks none kids more a ih =
+  node-sum k ks none children more a ih =
       rw (join-strip k (shared ks) a)
       (sum-append h (map (under (shared ks)) (map (remains (shared ks)) ks)) (keys k more)
       ∙ ap (λ (l : List Key). sum h l + sum h (keys k more)) (unders (shared ks) (shared-all ks)))
-  node-sum k ks (some d) kids more a ih =
+  node-sum k ks (some d) children more a ih =
       rw (join-strip k (shared ks) a)
-      (sum-append h (keys (shared ks) (kids d)) (keys k more) ∙ ap (λ (m : ℕ). m + sum h (keys k more)) (ih d refl))
+      (sum-append h (keys (shared ks) (children d)) (keys k more) ∙ ap (λ (m : ℕ). m + sum h (keys k more)) (ih d refl))
 
   grow-sum : (f : ℕ) (above : Above) (k : Strings) (x : Key) (xs : List Key) (more : Forest) → All (From k) (x ∷ xs)
       → sum h (keys k (grow n τ f above k (x ∷ xs) more)) ≡ sum h (x ∷ xs) + sum h (keys k more)
@@ -60,9 +60,9 @@ module _ (n τ : ℕ) (h : Key → ℕ) where
       ∙ sum-parts h d ks (choice-differ n τ above ks d e))
 
   -- the children of a set have its keys
-  pub kids-sum : (f : ℕ) (above : Above) (d : ℕ) (ks : List Key) → choice n τ above ks ≡ some d
+  pub children-sum : (f : ℕ) (above : Above) (d : ℕ) (ks : List Key) → choice n τ above ks ≡ some d
       → sum h (keys (shared ks) (children n τ f ks d)) ≡ sum h ks
-  kids-sum f above d ks e =
+  children-sum f above d ks e =
       each-sum (grow n τ f (below d) (shared ks)) (grow-sum f (below d) (shared ks)) (partition (From (shared ks)) d (shared-all ks))
       ∙ sum-parts h d ks (choice-differ n τ above ks d e)
 

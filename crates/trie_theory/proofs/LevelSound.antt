@@ -35,13 +35,13 @@ Below above s f = All (λ t. branching above s < branching above t) (tops f)
 
 module _ (n τ : ℕ) where
   -- a node before siblings whose bytes are above its own, an inner one if its children are well and two
-  node-well : (above : Above) (k : Strings) (x : Key) (xs : List Key) (o : Option ℕ) (kids : ℕ → Forest) (more : Forest)
+  node-well : (above : Above) (k : Strings) (x : Key) (xs : List Key) (o : Option ℕ) (children : ℕ → Forest) (more : Forest)
       → All (Wide n) (x ∷ xs)
       → Starts above (strip k (shared (x ∷ xs))) → Below above (strip k (shared (x ∷ xs))) more → Well n above more
-      → ((d : ℕ) → o ≡ some d → (2 ≤ length (tops (kids d))) × Well n (below d) (kids d))
-      → Well n above (node k (x ∷ xs) o kids more)
+      → ((d : ℕ) → o ≡ some d → (2 ≤ length (tops (children d))) × Well n (below d) (children d))
+      → Well n above (node k (x ∷ xs) o children more)
   unfolding node Sound Ascending ahead remains
-  node-well above k x xs o kids more w s b m ih = go o ih
+  node-well above k x xs o children more w s b m ih = go o ih
     where
       p : Strings
       p = strip k (shared (x ∷ xs))
@@ -57,8 +57,8 @@ module _ (n τ : ℕ) where
       before =
           all-test (λ t. ltb (branching above p) (branching above t)) (all-imp (λ t l. lt-ltb (branching above p) (branching above t) l) b)
 
-      go : (o : Option ℕ) → ((d : ℕ) → o ≡ some d → (2 ≤ length (tops (kids d))) × Well n (below d) (kids d))
-          → Well n above (node k (x ∷ xs) o kids more)
+      go : (o : Option ℕ) → ((d : ℕ) → o ≡ some d → (2 ≤ length (tops (children d))) × Well n (below d) (children d))
+          → Well n above (node k (x ∷ xs) o children more)
       go none ih = (
         (own, omega arith, all-map (remains (shared (x ∷ xs))) (λ y e. length-strip (shared (x ∷ xs)) (y .strings) ∙ e) w, m .0),
         (before, m .1),

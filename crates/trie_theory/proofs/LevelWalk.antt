@@ -24,7 +24,7 @@ use Rattle.trie_theory.proofs.Prefix.{Prefixes, From, shared-all, share
 use Rattle.trie_theory.proofs.Strings.{join-strip}
 use Rattle.trie_theory.proofs.Parts.{differ-all, differ-inside, extend, extend-in, extend-out}
 use Rattle.trie_theory.proofs.LevelStep.{children, choice-differ}
-use Rattle.trie_theory.proofs.LevelKept.{kids-sum}
+use Rattle.trie_theory.proofs.LevelKept.{children-sum}
 
 -- two sides of a test
 on-true : {A : Type 0} (w : Bool) (a b : A) → w ≡ true → cond w a b ≡ a
@@ -40,25 +40,25 @@ shared-in p (later i) a = shared-greatest p a
 
 module _ (x : Key) (k : Strings) (ks : List Key) (more : Forest) (above : Prefixes k (shared ks)) where
   -- a node with whose bytes x does not go on is passed over
-  node-skip : (o : Option ℕ) (kids : ℕ → Forest) → goesOn (shared ks) (x .strings) ≡ false
-      → walk k (node k ks o kids more) x ≡ walk k more x
+  node-skip : (o : Option ℕ) (children : ℕ → Forest) → goesOn (shared ks) (x .strings) ≡ false
+      → walk k (node k ks o children more) x ≡ walk k more x
   unfolding node walk
-  node-skip none kids e = on-false _ _ _ (ap (λ (l : Strings). goesOn l (x .strings)) (join-strip k (shared ks) above) ∙ e)
-  node-skip (some d) kids e = on-false _ _ _ (ap (λ (l : Strings). goesOn l (x .strings)) (join-strip k (shared ks) above) ∙ e)
+  node-skip none children e = on-false _ _ _ (ap (λ (l : Strings). goesOn l (x .strings)) (join-strip k (shared ks) above) ∙ e)
+  node-skip (some d) children e = on-false _ _ _ (ap (λ (l : Strings). goesOn l (x .strings)) (join-strip k (shared ks) above) ∙ e)
 
-  leaf-enter : (kids : ℕ → Forest) → From (shared ks) x
-      → walk k (node k ks none kids more) x ≡ stepAt (shared ks) (length ks) 0 ∷ []
+  leaf-enter : (children : ℕ → Forest) → From (shared ks) x
+      → walk k (node k ks none children more) x ≡ stepAt (shared ks) (length ks) 0 ∷ []
   unfolding node walk
-  leaf-enter kids h =
+  leaf-enter children h =
       rw (join-strip k (shared ks) above)
       (on-true _ _ _ (prefixes-goesOn (shared ks) (x .strings) h)
       ∙ ap (λ (m : ℕ). stepAt (shared ks) m 0 ∷ []) (length-map ks (remains (shared ks))))
 
-  inner-enter : (d : ℕ) (kids : ℕ → Forest) → From (shared ks) x
-      → walk k (node k ks (some d) kids more) x
-      ≡ stepAt (shared ks) (length (keys (shared ks) (kids d))) (suc d) ∷ walk (shared ks) (kids d) x
+  inner-enter : (d : ℕ) (children : ℕ → Forest) → From (shared ks) x
+      → walk k (node k ks (some d) children more) x
+      ≡ stepAt (shared ks) (length (keys (shared ks) (children d))) (suc d) ∷ walk (shared ks) (children d) x
   unfolding node walk
-  inner-enter d kids h = rw (join-strip k (shared ks) above) (on-true _ _ _ (prefixes-goesOn (shared ks) (x .strings) h))
+  inner-enter d children h = rw (join-strip k (shared ks) above) (on-true _ _ _ (prefixes-goesOn (shared ks) (x .strings) h))
 
 module _ (x : Key) (d : ℕ) (p : Strings) (g : List Key → Forest → Forest) (ks : List Key) (r : List Step) (i : In x ks)
     (own : (more : Forest) → walk p (g (keep d p (byte d p x) ks) more) x ≡ r)
@@ -131,12 +131,12 @@ module _ (n τ : ℕ) (x : Key) where
   differ-in d (at-head {xs = xs}) e = differ-inside d x xs e
   differ-in d (later {y = y} {xs = xs} i) e = differ-inside d y xs e
 
-  kids-walk : (f : ℕ) (above : Above) (d : ℕ) (ks : List Key) (r : List Step) → In x ks → choice n τ above ks ≡ some d
+  children-walk : (f : ℕ) (above : Above) (d : ℕ) (ks : List Key) (r : List Step) → In x ks → choice n τ above ks ≡ some d
       → ((more : Forest) → All (From (shared ks)) (part-of x d ks) → In x (part-of x d ks)
       → walk (shared ks) (grow n τ f (below d) (shared ks) (part-of x d ks) more) x ≡ r)
       → walk (shared ks) (children n τ f ks d) x ≡ r
   unfolding parts keep
-  kids-walk f above d ks r i q ih =
+  children-walk f above d ks r i q ih =
       let p = shared ks in
       let e = choice-differ n τ above ks d q in
       each-walk x d p (grow n τ f (below d) p) ks r i
@@ -169,8 +169,8 @@ module _ (n τ : ℕ) (x : Key) where
       go (some d) q ih =
           inner-enter x k ks more (shared-in k i a) d (children n τ f ks) (all-in (shared-all ks) i)
           ∙ ap₂ (λ (m : ℕ) (l : List Step). stepAt p m (suc d) ∷ l)
-          (equal-length (keys p (children n τ f ks d)) ks (λ h. kids-sum n τ h f above d ks q))
-          (kids-walk f above d ks (sequence n τ f (below d) (part-of x d ks) x) i q (ih d))
+          (equal-length (keys p (children n τ f ks d)) ks (λ h. children-sum n τ h f above d ks q))
+          (children-walk f above d ks (sequence n τ f (below d) (part-of x d ks) x) i q (ih d))
 
 pub level-walk : (n τ : ℕ) (ks : List Key) (x : Key) → In x ks → walk [] (levelOf n τ ks) x ≡ route n τ root ks x
 unfolding levelOf trie route Prefixes

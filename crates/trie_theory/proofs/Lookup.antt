@@ -96,7 +96,7 @@ unfolding tops member
 passed above s none x a e = refl
 passed above s (leaf t ts more) x a e =
     rw (meets-apart above t (x .strings) (λ q. all-head a (e ∙ sym q))) (passed above s more x (all-tail a) e)
-passed above s (inner d t kids more) x a e =
+passed above s (inner d t children more) x a e =
     rw (meets-apart above t (x .strings) (λ q. all-head a (e ∙ sym q))) (passed above s more x (all-tail a) e)
 
 -- one node: `mine` is what it finds, all of it agreeing with its strings, and `others` what its siblings hold
@@ -125,12 +125,12 @@ member-among n above (leaf s ts more) x h =
     here-or-later n above s x more (among (remains s x) ts) (among x (keys [] more)) (h .0) (member-among n above more x (h .3))
     ∙ ap (λ (b : Bool). b || among x (keys [] more)) (sym (among-under s x (all-imp (λ y e. h .0 .wide ∙ sym e) (h .2))))
     ∙ sym (any-append (sameKey x) (map (under s) ts) (keys [] more))
-member-among n above (inner d s kids more) x h =
+member-among n above (inner d s children more) x h =
     ap (λ (b : Bool). cond (meets above s (x .strings)) (goesOn s (x .strings) && b) (member above more x))
-    (member-among n (below d) kids (remains s x) (h .2))
-    ∙ here-or-later n above s x more (among (remains s x) (keys [] kids)) (among x (keys [] more)) (h .0)
+    (member-among n (below d) children (remains s x) (h .2))
+    ∙ here-or-later n above s x more (among (remains s x) (keys [] children)) (among x (keys [] more)) (h .0)
     (member-among n above more x (h .3))
     ∙ ap (λ (b : Bool). b || among x (keys [] more))
-    (sym (among-under s x (all-imp (λ y e. h .0 .wide ∙ sym e) (wide-keys n (below d) kids (h .2))))
-    ∙ ap (among x) (sym (keys-from s kids)))
-    ∙ sym (any-append (sameKey x) (keys s kids) (keys [] more))
+    (sym (among-under s x (all-imp (λ y e. h .0 .wide ∙ sym e) (wide-keys n (below d) children (h .2))))
+    ∙ ap (among x) (sym (keys-from s children)))
+    ∙ sym (any-append (sameKey x) (keys s children) (keys [] more))

@@ -19,7 +19,7 @@ use Rattle.trie_theory.proofs.SoundLaws.{some-key}
 unfoldable pub EachString : (List ℕ → Type 0) → Forest → Type 0
 EachString Q none = Unit {0}
 EachString Q (leaf s ts more) = All Q s × All (λ t. All Q (t .strings)) ts × EachString Q more
-EachString Q (inner d s kids more) = All Q s × EachString Q kids × EachString Q more
+EachString Q (inner d s children more) = All Q s × EachString Q children × EachString Q more
 
 -- what passes from a string to its beginnings and its ends
 abbrev pub Inherited : (List ℕ → Type 0) → Type 0
@@ -51,10 +51,10 @@ module _ (Q : List ℕ → Type 0) (whole : Inherited Q) where
     all-unmap (under (join k s)) (λ t e. all-joined (join k s) (t .strings) e .1) ts (all-left (map (under (join k s)) ts) (keys k more) a),
     each-string n above k more (h .3) (all-right (map (under (join k s)) ts) (keys k more) a),
   )
-  each-string n above k (inner d s kids more) h a = (
-    node-strings k s (some-key n above k (inner d s kids more) h (omega arith) a),
-    each-string n (below d) (join k s) kids (h .2) (all-left (keys (join k s) kids) (keys k more) a),
-    each-string n above k more (h .3) (all-right (keys (join k s) kids) (keys k more) a),
+  each-string n above k (inner d s children more) h a = (
+    node-strings k s (some-key n above k (inner d s children more) h (omega arith) a),
+    each-string n (below d) (join k s) children (h .2) (all-left (keys (join k s) children) (keys k more) a),
+    each-string n above k more (h .3) (all-right (keys (join k s) children) (keys k more) a),
   )
 
 -- at most B bytes

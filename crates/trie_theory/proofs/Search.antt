@@ -6,12 +6,13 @@ use mathlib.Core.Bool.{Bool, true, false, cond, true≢false}
 use mathlib.Core.List.{List, [], _∷_, _++_, map}
 use native.Mathlib.Omega.{arith}
 use Rattle.trie_theory.specs.Forest.{Strings, Key, Forest, none, leaf, inner, join, under, keys}
-use Rattle.buffer.specs.Lists.{All, nil, cons, pick}
+use Rattle.buffer.specs.Lists.{All, nil, cons, pick, count}
 use Rattle.trie_theory.specs.Strings.{goesOn}
 use Rattle.trie_theory.specs.Dimensions.{Above, root, below}
-use Rattle.trie_theory.specs.Search.{branch, enters, nodesEntered, admitted, found}
+use Rattle.trie_theory.specs.Search.{branch, node, nodesIn, admitted, enters, nodesEntered, found}
 use Rattle.trie_theory.specs.Size.{nodes}
 use Rattle.buffer.proofs.Lists.{pick-append}
+use Rattle.buffer.proofs.Sums.{count-append}
 use Rattle.buffer.proofs.Tests.{not-true}
 use Rattle.trie_theory.proofs.Prefix.{Prefix, Prefixes, From, prefixes-goesOn, prefix-refl, prefixes-refl, prefixes-join}
 use Rattle.trie_theory.proofs.Prefix.{prefixes-trans, prefix-append}
@@ -72,45 +73,53 @@ module _ (reach : Strings → Bool) (matching : Key → Bool)
   found-all above k (leaf s ts more) =
       ap₂ _++_ (guarded above k s (from-under (join k s) ts)) (found-all above k more)
       ∙ sym (pick-append matching (map (under (join k s)) ts) (keys k more))
-  found-all above k (inner d s kids more) =
+  found-all above k (inner d s children more) =
       ap₂ _++_
-      (ap (λ (l : List Key). cond (enters reach above k s) l []) (found-all (below d) (join k s) kids)
-      ∙ guarded above k s (all-keys (join k s) kids))
+      (ap (λ (l : List Key). cond (enters reach above k s) l []) (found-all (below d) (join k s) children)
+      ∙ guarded above k s (all-keys (join k s) children))
       (found-all above k more)
-      ∙ sym (pick-append matching (keys (join k s) kids) (keys k more))
+      ∙ sym (pick-append matching (keys (join k s) children) (keys k more))
 
 module _ (reach : Strings → Bool) (down : (k l : Strings) → goesOn k l ≡ true → reach l ≡ true → reach k ≡ true) where
   -- where bytes are refused, so is all that goes on from them
   refused : (k l : Strings) → Prefixes k l → reach k ≡ false → reach l ≡ false
   refused k l h e = not-true (reach l) (λ q. true≢false (sym (down k l (prefixes-goesOn k l h) q) ∙ e))
 
-  none-admitted : (d : ℕ) (k : Strings) (f : Forest) → reach k ≡ false → admitted reach (below d) k f ≡ 0
-  unfolding admitted enters
+  none-admitted : (d : ℕ) (k : Strings) (f : Forest) → reach k ≡ false → count (admitted reach) (nodesIn (below d) k f) ≡ 0
+  unfolding nodesIn count
   none-admitted d k none e = refl
-  none-admitted d k (leaf s ts more) e = rw (refused k (branch d k s) (known-branch d k s) e) (omega (arith, none-admitted d k more e))
-  none-admitted d k (inner c s kids more) e =
+  none-admitted d k (leaf s ts more) e = rw (refused k (branch d k s) (known-branch d k s) e) (none-admitted d k more e)
+  none-admitted d k (inner c s children more) e =
       rw (refused k (branch d k s) (known-branch d k s) e)
-      (omega (arith, none-admitted c (join k s) kids (refused k (join k s) (prefixes-join k s) e), none-admitted d k more e))
+      (omega (arith, count-append (admitted reach) (nodesIn (below c) (join k s) children) (nodesIn (below d) k more), none-admitted c (join k s) children (refused k (join k s) (prefixes-join k s) e), none-admitted d k more e))
 
   -- THE NODE COUNT: a walk enters exactly what the rule admits
-  pub entered-admitted : (above : Above) (k : Strings) (f : Forest) → nodesEntered reach above k f ≡ admitted reach above k f
-  unfolding nodesEntered admitted
+  pub entered-admitted : (above : Above) (k : Strings) (f : Forest) → nodesEntered reach above k f ≡ count (admitted reach) (nodesIn above k f)
+  unfolding nodesEntered nodesIn count enters
   entered-admitted above k none = refl
-  entered-admitted above k (leaf s ts more) = ap (λ (x : ℕ). cond (enters reach above k s) 1 0 + x) (entered-admitted above k more)
-  entered-admitted above k (inner c s kids more) =
-      go (enters reach above k s) refl (entered-admitted (below c) (join k s) kids) (entered-admitted above k more)
+  entered-admitted above k (leaf s ts more) = go (admitted reach (node above k s)) (entered-admitted above k more)
     where
-      blocked : (above : Above) → enters reach above k s ≡ false → reach (join k s) ≡ false
-      blocked root e = absurd (true≢false (unfold enters in e))
-      blocked (below d) e = refused (branch d k s) (join k s) (branch-join d k s) (unfold enters in e)
+      go : (w : Bool) → nodesEntered reach above k more ≡ count (admitted reach) (nodesIn above k more)
+          → cond w 1 0 + nodesEntered reach above k more
+          ≡ cond w (suc (count (admitted reach) (nodesIn above k more))) (count (admitted reach) (nodesIn above k more))
+      go true ih = omega arith
+      go false ih = omega arith
+  entered-admitted above k (inner c s children more) =
+      let xs = nodesIn (below c) (join k s) children in
+      rw (count-append (admitted reach) xs (nodesIn above k more))
+      (go (admitted reach (node above k s)) refl (entered-admitted (below c) (join k s) children) (entered-admitted above k more))
+    where
+      blocked : (above : Above) → admitted reach (node above k s) ≡ false → reach (join k s) ≡ false
+      blocked root e = absurd (true≢false e)
+      blocked (below d) e = refused (branch d k s) (join k s) (branch-join d k s) e
 
-      go : (w : Bool) → enters reach above k s ≡ w
-          → nodesEntered reach (below c) (join k s) kids ≡ admitted reach (below c) (join k s) kids
-          → nodesEntered reach above k more ≡ admitted reach above k more
-          → cond w (1 + nodesEntered reach (below c) (join k s) kids) 0 + nodesEntered reach above k more
-          ≡ cond w 1 0 + admitted reach (below c) (join k s) kids + admitted reach above k more
+      go : (w : Bool) → admitted reach (node above k s) ≡ w
+          → nodesEntered reach (below c) (join k s) children ≡ count (admitted reach) (nodesIn (below c) (join k s) children)
+          → nodesEntered reach above k more ≡ count (admitted reach) (nodesIn above k more)
+          → let n = count (admitted reach) (nodesIn (below c) (join k s) children) + count (admitted reach) (nodesIn above k more) in
+          cond w (1 + nodesEntered reach (below c) (join k s) children) 0 + nodesEntered reach above k more ≡ cond w (suc n) n
       go true q ihk ih = omega arith
-      go false q ihk ih = omega (arith, ih, none-admitted c (join k s) kids (blocked above q))
+      go false q ihk ih = omega (arith, ih, none-admitted c (join k s) children (blocked above q))
 
 -- no more nodes are entered than there are
 pub entered-most : (reach : Strings → Bool) (above : Above) (k : Strings) (f : Forest) → nodesEntered reach above k f ≤ nodes f
@@ -122,10 +131,10 @@ entered-most reach above k (leaf s ts more) = go (enters reach above k s) (enter
         → cond w 1 0 + nodesEntered reach above k more ≤ suc (nodes more)
     go true h = omega arith
     go false h = omega arith
-entered-most reach above k (inner d s kids more) =
-    go (enters reach above k s) (entered-most reach (below d) (join k s) kids) (entered-most reach above k more)
+entered-most reach above k (inner d s children more) =
+    go (enters reach above k s) (entered-most reach (below d) (join k s) children) (entered-most reach above k more)
   where
-    go : (w : Bool) → nodesEntered reach (below d) (join k s) kids ≤ nodes kids → nodesEntered reach above k more ≤ nodes more
-        → cond w (1 + nodesEntered reach (below d) (join k s) kids) 0 + nodesEntered reach above k more ≤ suc (nodes kids + nodes more)
+    go : (w : Bool) → nodesEntered reach (below d) (join k s) children ≤ nodes children → nodesEntered reach above k more ≤ nodes more
+        → cond w (1 + nodesEntered reach (below d) (join k s) children) 0 + nodesEntered reach above k more ≤ suc (nodes children + nodes more)
     go true g h = omega arith
     go false g h = omega arith

@@ -105,13 +105,13 @@ ascending-added n above (leaf s ts more) x h w fx free o =
     n above s x (leaf s (ts ++ (remains s x ∷ [])) more) more (h .0) (h .3) w fx (some-key n above [] (leaf s ts more) h (omega arith) free)
     (o .0) (o .1) (λ g. o)
     (ascending-added n above more x (h .3) w fx (all-right (map (under s) ts) (keys [] more) free) (o .1))
-ascending-added n above (inner d s kids more) x h w fx free o =
-    placed-ascending (λ s′ m. inner d s′ kids m) (λ s′ m. refl) (λ above′ s′ m a b. (a, o .1, b))
-    n above s x (inner d s (added (below d) kids (remains s x)) more) more (h .0) (h .3) w fx
-    (some-key n above [] (inner d s kids more) h (omega arith) free)
+ascending-added n above (inner d s children more) x h w fx free o =
+    placed-ascending (λ s′ m. inner d s′ children m) (λ s′ m. refl) (λ above′ s′ m a b. (a, o .1, b))
+    n above s x (inner d s (added (below d) children (remains s x)) more) more (h .0) (h .3) w fx
+    (some-key n above [] (inner d s children more) h (omega arith) free)
     (o .0) (o .2)
     (λ g.
-    let f = below-free s kids x (goesOn-prefixes s (x .strings) g) (all-left (keys s kids) (keys [] more) free) in
-    let starts = below-starts n d kids (remains s x) (h .2) (h .1) f in
-    (o .0, ascending-added n (below d) kids (remains s x) (h .2) (length-strip s (x .strings) ∙ w) starts f (o .1), o .2))
-    (ascending-added n above more x (h .3) w fx (all-right (keys s kids) (keys [] more) free) (o .2))
+    let f = below-free s children x (goesOn-prefixes s (x .strings) g) (all-left (keys s children) (keys [] more) free) in
+    let starts = below-starts n d children (remains s x) (h .2) (h .1) f in
+    (o .0, ascending-added n (below d) children (remains s x) (h .2) (length-strip s (x .strings) ∙ w) starts f (o .1), o .2))
+    (ascending-added n above more x (h .3) w fx (all-right (keys s children) (keys [] more) free) (o .2))

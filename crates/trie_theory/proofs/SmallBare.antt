@@ -90,16 +90,16 @@ bare-added n above (leaf s ts more) x h b held =
     let none-left = leaf-ends s ts x (goesOn-prefixes s (x .strings) g) (h .1) (b .0) (all-left (map (under s) ts) (keys [] more) held) in
     (all-append (b .0) (cons {x = remains s x} none-left nil), b .1))
     (bare-added n above more x (h .3) (b .1) (all-right (map (under s) ts) (keys [] more) held))
-bare-added n above (inner d s kids more) x h b held =
-    placed-bare (λ s′ m. inner d s′ kids m) (λ s′ m r. (b .0, r))
-    above s x (inner d s (added (below d) kids (remains s x)) more) more (added above more x) (b .1)
-    (λ g. (bare-added n (below d) kids (remains s x) (h .2) (b .0) (below-held (goesOn-prefixes s (x .strings) g)), b .1))
-    (bare-added n above more x (h .3) (b .1) (all-right (keys s kids) (keys [] more) held))
+bare-added n above (inner d s children more) x h b held =
+    placed-bare (λ s′ m. inner d s′ children m) (λ s′ m r. (b .0, r))
+    above s x (inner d s (added (below d) children (remains s x)) more) more (added above more x) (b .1)
+    (λ g. (bare-added n (below d) children (remains s x) (h .2) (b .0) (below-held (goesOn-prefixes s (x .strings) g)), b .1))
+    (bare-added n above more x (h .3) (b .1) (all-right (keys s children) (keys [] more) held))
   where
-    below-held : From s x → All (λ y. Free y (remains s x)) (keys [] kids)
+    below-held : From s x → All (λ y. Free y (remains s x)) (keys [] children)
     below-held f =
-        all-unmap (under s) (λ y q. held-below s x y f q) (keys [] kids)
-        (subst (All (λ y. Free y x)) (keys-from s kids) (all-left (keys s kids) (keys [] more) held))
+        all-unmap (under s) (λ y q. held-below s x y f q) (keys [] children)
+        (subst (All (λ y. Free y x)) (keys-from s children) (all-left (keys s children) (keys [] more) held))
 
 module _ (cs : List (List ℕ → Bool)) (stop : All Stops cs) where
   pub small-none : Small cs none

@@ -75,15 +75,15 @@ module _ (h : Key → ℕ) where
         sum-append h mine (keys k more),
       ))
       (sum-added above k more x)
-  sum-added above k (inner d s kids more) x =
-      let grown-kids = added (below d) kids (remains s x) in
-      sum-placed (λ s′ m. inner d s′ kids m) (λ l. sum h (keys l kids)) (λ k′ s′ m. sum-append h (keys (join k′ s′) kids) (keys k′ m))
-      above k s x (inner d s grown-kids more) more (added above more x)
+  sum-added above k (inner d s children more) x =
+      let grown-children = added (below d) children (remains s x) in
+      sum-placed (λ s′ m. inner d s′ children m) (λ l. sum h (keys l children)) (λ k′ s′ m. sum-append h (keys (join k′ s′) children) (keys k′ m))
+      above k s x (inner d s grown-children more) more (added above more x)
       (λ g. omega (
         arith,
-        sum-added (below d) (join k s) kids (remains s x),
-        sum-append h (keys (join k s) grown-kids) (keys k more),
-        sum-append h (keys (join k s) kids) (keys k more),
+        sum-added (below d) (join k s) children (remains s x),
+        sum-append h (keys (join k s) grown-children) (keys k more),
+        sum-append h (keys (join k s) children) (keys k more),
       ))
       (sum-added above k more x)
 
@@ -153,9 +153,9 @@ module _ (h u : ℕ) where
       (growth h u above more x)
       (omega (arith, sum-append (λ t. u + total (t .strings)) ts (remains s x ∷ [])))
       (cost-added above more x)
-  cost-added above (inner d s kids more) x =
-      cost-placed (λ s′ m. inner d s′ kids m) (cost h u kids) (λ s′ m. refl)
-      above s x (inner d s (added (below d) kids (remains s x)) more) more (added above more x)
-      (growth h u (below d) kids (remains s x)) (growth h u above more x)
-      (omega (arith, cost-added (below d) kids (remains s x)))
+  cost-added above (inner d s children more) x =
+      cost-placed (λ s′ m. inner d s′ children m) (cost h u children) (λ s′ m. refl)
+      above s x (inner d s (added (below d) children (remains s x)) more) more (added above more x)
+      (growth h u (below d) children (remains s x)) (growth h u above more x)
+      (omega (arith, cost-added (below d) children (remains s x)))
       (cost-added above more x)

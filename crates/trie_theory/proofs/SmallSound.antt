@@ -56,8 +56,8 @@ tops-added Q n above none x h fx q a = cons q nil
 tops-added Q n above (leaf s ts more) x h fx q (cons b a) =
     tops-placed Q above (λ s′ m. leaf s′ ts m) (λ s′ m. refl) s x (leaf s (ts ++ (remains s x ∷ [])) more) more (added above more x)
     (h .0 .starts) fx q b a (cons b a) (tops-added Q n above more x (h .3) fx q a)
-tops-added Q n above (inner d s kids more) x h fx q (cons b a) =
-    tops-placed Q above (λ s′ m. inner d s′ kids m) (λ s′ m. refl) s x (inner d s (added (below d) kids (remains s x)) more) more
+tops-added Q n above (inner d s children more) x h fx q (cons b a) =
+    tops-placed Q above (λ s′ m. inner d s′ children m) (λ s′ m. refl) s x (inner d s (added (below d) children (remains s x)) more) more
     (added above more x)
     (h .0 .starts) fx q b a (cons b a) (tops-added Q n above more x (h .3) fx q a)
 
@@ -77,23 +77,23 @@ width-added above none x = omega arith
 width-added above (leaf s ts more) x =
     width-placed above (λ s′ m. leaf s′ ts m) (λ s′ m. refl) s x (leaf s (ts ++ (remains s x ∷ [])) more) more (added above more x)
     (omega arith) (width-added above more x)
-width-added above (inner d s kids more) x =
-    width-placed above (λ s′ m. inner d s′ kids m) (λ s′ m. refl) s x (inner d s (added (below d) kids (remains s x)) more) more
+width-added above (inner d s children more) x =
+    width-placed above (λ s′ m. inner d s′ children m) (λ s′ m. refl) s x (inner d s (added (below d) children (remains s x)) more) more
     (added above more x)
     (omega arith) (width-added above more x)
 
 -- what a key is below an inner node with which it agrees: free, and with the branching byte
-pub below-free : (s : Strings) (kids : Forest) (x : Key) → From s x → All (Free x) (keys s kids)
-    → All (Free (remains s x)) (keys [] kids)
-below-free s kids x f a = all-unmap (under s) (λ y h. free-below s x y f h) (keys [] kids) (subst (All (Free x)) (keys-from s kids) a)
+pub below-free : (s : Strings) (children : Forest) (x : Key) → From s x → All (Free x) (keys s children)
+    → All (Free (remains s x)) (keys [] children)
+below-free s children x f a = all-unmap (under s) (λ y h. free-below s x y f h) (keys [] children) (subst (All (Free x)) (keys-from s children) a)
 
-pub below-starts : (n d : ℕ) (kids : Forest) (x : Key) → Sound n (below d) kids → 2 ≤ length (tops kids)
-    → All (Free x) (keys [] kids)
+pub below-starts : (n d : ℕ) (children : Forest) (x : Key) → Sound n (below d) children → 2 ≤ length (tops children)
+    → All (Free x) (keys [] children)
     → Starts (below d) (x .strings)
 unfolding join
-below-starts n d kids x h w a =
-    let y = some-key n (below d) [] kids h (omega arith) a in
-    free-starts d (top kids) x (y .0) (y .1) (y .2) (top-starts n (below d) kids h (omega arith))
+below-starts n d children x h w a =
+    let y = some-key n (below d) [] children h (omega arith) a in
+    free-starts d (top children) x (y .0) (y .1) (y .2) (top-starts n (below d) children h (omega arith))
 
 -- a byte below those of all tries is none of theirs
 ahead-apart : (above : Above) (k : Strings) (f : Forest) → ahead above k f ≡ true
@@ -181,15 +181,15 @@ module _ (n : ℕ) where
         h .3,
       ))
       (sound-added above more x (h .3) w fx (all-right (map (under s) ts) (keys [] more) free))
-  sound-added above (inner d s kids more) x h w fx free =
-      placed-sound (λ s′ m. inner d s′ kids m) (λ s′ m. refl) (λ above′ s′ m c r. (c, h .1, h .2, r))
-      above s x (inner d s (added (below d) kids (remains s x)) more) more (h .0) (h .3) w fx
-      (some-key n above [] (inner d s kids more) h (omega arith) free)
-      (λ g. let f = below-free s kids x (goesOn-prefixes s (x .strings) g) (all-left (keys s kids) (keys [] more) free) in (
+  sound-added above (inner d s children more) x h w fx free =
+      placed-sound (λ s′ m. inner d s′ children m) (λ s′ m. refl) (λ above′ s′ m c r. (c, h .1, h .2, r))
+      above s x (inner d s (added (below d) children (remains s x)) more) more (h .0) (h .3) w fx
+      (some-key n above [] (inner d s children more) h (omega arith) free)
+      (λ g. let f = below-free s children x (goesOn-prefixes s (x .strings) g) (all-left (keys s children) (keys [] more) free) in (
         h .0,
-        omega (arith, h .1, width-added (below d) kids (remains s x)),
-        sound-added (below d) kids (remains s x) (h .2) (length-strip s (x .strings) ∙ w)
-            (below-starts n d kids (remains s x) (h .2) (h .1) f) f,
+        omega (arith, h .1, width-added (below d) children (remains s x)),
+        sound-added (below d) children (remains s x) (h .2) (length-strip s (x .strings) ∙ w)
+            (below-starts n d children (remains s x) (h .2) (h .1) f) f,
         h .3,
       ))
-      (sound-added above more x (h .3) w fx (all-right (keys s kids) (keys [] more) free))
+      (sound-added above more x (h .3) w fx (all-right (keys s children) (keys [] more) free))

@@ -25,14 +25,14 @@ pub top-starts : (n : ℕ) (above : Above) (f : Forest) → Sound n above f → 
 unfolding Sound tops
 top-starts n above none h w = absurd (omega arith)
 top-starts n above (leaf s ts more) h w = h .0 .starts
-top-starts n above (inner d s kids more) h w = h .0 .starts
+top-starts n above (inner d s children more) h w = h .0 .starts
 
 -- a root has no siblings: a sound trie is one tree, or none
 pub root-alone : (n : ℕ) (s : Strings) (more : Forest) → Node n root s more → more ≡ none
 unfolding tops branching
 root-alone n s none h = refl
 root-alone n s (leaf t ts more) h = absurd (all-head (h .apart) refl)
-root-alone n s (inner d t kids more) h = absurd (all-head (h .apart) refl)
+root-alone n s (inner d t children more) h = absurd (all-head (h .apart) refl)
 
 -- A SOUND TRIE HAS A KEY, which goes on from the strings of its root
 pub some-key : {P : Key → Type 0} (n : ℕ) (above : Above) (k : Strings) (f : Forest)
@@ -41,9 +41,9 @@ unfolding Sound tops keys under
 some-key n above k none h w a = absurd (omega arith)
 some-key n above k (leaf s [] more) h w a = absurd (omega (arith, h .1))
 some-key n above k (leaf s (t ∷ ts) more) h w a = (under (join k s) t, all-head a, prefixes-join (join k s) (t .strings))
-some-key n above k (inner d s kids more) h w a =
-    let r = some-key n (below d) (join k s) kids (h .2) (omega (arith, h .1)) (all-left (keys (join k s) kids) (keys k more) a) in
-    (r .0, r .1, prefixes-trans (join k s) (join (join k s) (top kids)) (r .0 .strings) (prefixes-join (join k s) (top kids)) (r .2))
+some-key n above k (inner d s children more) h w a =
+    let r = some-key n (below d) (join k s) children (h .2) (omega (arith, h .1)) (all-left (keys (join k s) children) (keys k more) a) in
+    (r .0, r .1, prefixes-trans (join k s) (join (join k s) (top children)) (r .0 .strings) (prefixes-join (join k s) (top children)) (r .2))
 
 -- each trie has one
 pub keys-many : (n : ℕ) (above : Above) (k : Strings) (f : Forest) → Sound n above f → length (tops f) ≤ length (keys k f)
@@ -57,13 +57,13 @@ keys-many n above k (leaf s ts more) h =
       length-append (map (under (join k s)) ts) (keys k more),
       length-map ts (under (join k s)),
     )
-keys-many n above k (inner d s kids more) h =
+keys-many n above k (inner d s children more) h =
     omega (
       arith,
       h .1,
-      keys-many n (below d) (join k s) kids (h .2),
+      keys-many n (below d) (join k s) children (h .2),
       keys-many n above k more (h .3),
-      length-append (keys (join k s) kids) (keys k more),
+      length-append (keys (join k s) children) (keys k more),
     )
 
 -- its keys have n strings
@@ -73,10 +73,10 @@ wide-keys n above none h = nil
 wide-keys n above (leaf s ts more) h =
     all-append (all-map (under s) (λ y e. length-join s (y .strings) (h .0 .wide ∙ sym e) ∙ h .0 .wide) (h .2))
     (wide-keys n above more (h .3))
-wide-keys n above (inner d s kids more) h =
-    all-append {xs = keys s kids}
-    (rw (keys-from s kids) (all-map (under s) (λ y e. length-join s (y .strings) (h .0 .wide ∙ sym e) ∙ h .0 .wide)
-    (wide-keys n (below d) kids (h .2))))
+wide-keys n above (inner d s children more) h =
+    all-append {xs = keys s children}
+    (rw (keys-from s children) (all-map (under s) (λ y e. length-join s (y .strings) (h .0 .wide ∙ sym e) ∙ h .0 .wide)
+    (wide-keys n (below d) children (h .2))))
     (wide-keys n above more (h .3))
 
 -- THE NODES of N keys are at most 2 N - 1
@@ -92,13 +92,13 @@ nodes-known n above k (leaf s ts more) h =
       length-append (map (under (join k s)) ts) (keys k more),
       length-map ts (under (join k s)),
     )
-nodes-known n above k (inner d s kids more) h =
+nodes-known n above k (inner d s children more) h =
     omega (
       arith,
       h .1,
-      nodes-known n (below d) (join k s) kids (h .2),
+      nodes-known n (below d) (join k s) children (h .2),
       nodes-known n above k more (h .3),
-      length-append (keys (join k s) kids) (keys k more),
+      length-append (keys (join k s) children) (keys k more),
     )
 
 -- a byte to begin with, except at the root
@@ -130,15 +130,15 @@ height-known m n above k (leaf s ts more) h a e =
       starts-byte above s (h .0 .starts),
       height-known m n above k more (h .3) (all-right (map (under (join k s)) ts) (keys k more) a) e,
     )
-height-known m n above k (inner d s kids more) h a e =
-    let known = known-fits m n above k (inner d s kids more) h (omega arith) a in
+height-known m n above k (inner d s children more) h a e =
+    let known = known-fits m n above k (inner d s children more) h (omega arith) a in
     omega (
       arith,
-      height-known m n (below d) (join k s) kids (h .2) (all-left (keys (join k s) kids) (keys k more) a)
+      height-known m n (below d) (join k s) children (h .2) (all-left (keys (join k s) children) (keys k more) a)
           (omega (arith, known, total-join k s)),
       total-join k s,
       starts-byte above s (h .0 .starts),
-      height-known m n above k more (h .3) (all-right (keys (join k s) kids) (keys k more) a) e,
+      height-known m n above k more (h .3) (all-right (keys (join k s) children) (keys k more) a) e,
     )
 
 -- THE HEIGHT is at most one more than the most bytes of a key
@@ -177,21 +177,21 @@ module _ (h u n : ℕ) where
               total-join (join k s) (t .strings),
             ))),
       )
-  cost-known above k (inner d s kids more) w =
+  cost-known above k (inner d s children more) w =
       omega (
         arith,
-        cost-known (below d) (join k s) kids (w .2),
-        heads-two (tops kids) (w .1),
+        cost-known (below d) (join k s) children (w .2),
+        heads-two (tops children) (w .1),
         cost-known above k more (w .3),
-        sum-append (share h u k) (keys (join k s) kids) (keys k more),
+        sum-append (share h u k) (keys (join k s) children) (keys k more),
         sum-more (total s) (share h u (join k s)) (share h u k)
-            (omega (arith, w .1, keys-many n (below d) (join k s) kids (w .2)))
+            (omega (arith, w .1, keys-many n (below d) (join k s) children (w .2)))
             (all-imp (λ x e. omega (
               arith,
               total-strip-strip k (join k s) (x .strings) (prefixes-join k s) e,
               total-strip k (join k s) (prefixes-join k s),
               total-join k s,
-            )) (all-keys (join k s) kids)),
+            )) (all-keys (join k s) children)),
       )
 
   -- THE BYTES of keys of at most m bytes

@@ -23,11 +23,11 @@ walk-height k (leaf s ts more) x = go (goesOn (join k s) (x .strings)) (walk-hei
         → length (cond w (stepAt (join k s) (length ts) 0 ∷ []) (walk k more x)) ≤ max 1 (height more)
     go true h = omega arith
     go false h = omega arith
-walk-height k (inner d s kids more) x = go (goesOn (join k s) (x .strings)) (walk-height (join k s) kids x) (walk-height k more x)
+walk-height k (inner d s children more) x = go (goesOn (join k s) (x .strings)) (walk-height (join k s) children x) (walk-height k more x)
   where
-    go : (w : Bool) → length (walk (join k s) kids x) ≤ height kids → length (walk k more x) ≤ height more
-        → length (cond w (stepAt (join k s) (length (keys (join k s) kids)) (suc d) ∷ walk (join k s) kids x) (walk k more x))
-        ≤ max (suc (height kids)) (height more)
+    go : (w : Bool) → length (walk (join k s) children x) ≤ height children → length (walk k more x) ≤ height more
+        → length (cond w (stepAt (join k s) (length (keys (join k s) children)) (suc d) ∷ walk (join k s) children x) (walk k more x))
+        ≤ max (suc (height children)) (height more)
     go true g h = omega arith
     go false g h = omega arith
 
@@ -59,11 +59,11 @@ module _ (B : ℕ) (x : Key) (short : All (λ l. length l ≤ B) (x .strings)) w
           → All (AtMost (suc B)) (cond w (stepAt (join k s) (length ts) 0 ∷ []) (walk k more x))
       go true e r = cons (step-most (join k s) (length ts) 0 e) nil
       go false e r = r
-  walk-most k (inner d s kids more) = go (goesOn (join k s) (x .strings)) refl (walk-most (join k s) kids) (walk-most k more)
+  walk-most k (inner d s children more) = go (goesOn (join k s) (x .strings)) refl (walk-most (join k s) children) (walk-most k more)
     where
-      go : (w : Bool) → goesOn (join k s) (x .strings) ≡ w → All (AtMost (suc B)) (walk (join k s) kids x)
+      go : (w : Bool) → goesOn (join k s) (x .strings) ≡ w → All (AtMost (suc B)) (walk (join k s) children x)
           → All (AtMost (suc B)) (walk k more x)
           → All (AtMost (suc B))
-          (cond w (stepAt (join k s) (length (keys (join k s) kids)) (suc d) ∷ walk (join k s) kids x) (walk k more x))
-      go true e q r = cons (step-most (join k s) (length (keys (join k s) kids)) (suc d) e) q
+          (cond w (stepAt (join k s) (length (keys (join k s) children)) (suc d) ∷ walk (join k s) children x) (walk k more x))
+      go true e q r = cons (step-most (join k s) (length (keys (join k s) children)) (suc d) e) q
       go false e q r = r

@@ -23,7 +23,7 @@ nodeBytes kind s body = kind ∷ (map length s ++ (bytesOf 4 (length body) ++ (f
 unfoldable pub encode : Forest → List ℕ
 encode none = []
 encode (leaf s ts more) = nodeBytes 0 s (flat (map suffixBytes ts)) ++ encode more
-encode (inner d s kids more) = nodeBytes (suc d) s (encode kids) ++ encode more
+encode (inner d s children more) = nodeBytes (suc d) s (encode children) ++ encode more
 
 -- a reference has 20 bytes
 abbrev pub Twenty : Key → Type 0
@@ -33,4 +33,4 @@ Twenty x = length (x .reference) ≡ referenceSize
 unfoldable pub Regular : ℕ → Forest → Type 0
 Regular n none = Unit {0}
 Regular n (leaf s ts more) = (length s ≡ n) × All (λ t. Wide n t × Twenty t) ts × Regular n more
-Regular n (inner d s kids more) = (length s ≡ n) × Regular n kids × Regular n more
+Regular n (inner d s children more) = (length s ≡ n) × Regular n children × Regular n more

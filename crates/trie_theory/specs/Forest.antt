@@ -32,10 +32,10 @@ under k t = record { strings = join k (t .strings); reference = t .reference }
 unfoldable pub keys : Strings → Forest → List Key
 keys k none = []
 keys k (leaf s ts more) = map (under (join k s)) ts ++ keys k more
-keys k (inner d s kids more) = keys (join k s) kids ++ keys k more
+keys k (inner d s children more) = keys (join k s) children ++ keys k more
 
 -- the strings of the tries side by side
 unfoldable pub tops : Forest → List Strings
 tops none = []
 tops (leaf s ts more) = s ∷ tops more
-tops (inner d s kids more) = s ∷ tops more
+tops (inner d s children more) = s ∷ tops more

@@ -27,8 +27,8 @@ choice n τ above ks = cond (ltb τ (length ks)) (turn (λ d. differ d ks) n abo
 -- The node of keys, k known at its parent, before its siblings: it has the bytes from its parent's positions up to its
 -- own; a leaf keeps what remains of each key
 unfoldable pub node : Strings → List Key → Option ℕ → (ℕ → Forest) → Forest → Forest
-node k ks none kids more = leaf (strip k (shared ks)) (map (remains (shared ks)) ks) more
-node k ks (some d) kids more = inner d (strip k (shared ks)) (kids d) more
+node k ks none children more = leaf (strip k (shared ks)) (map (remains (shared ks)) ks) more
+node k ks (some d) children more = inner d (strip k (shared ks)) (children d) more
 
 -- tries side by side, one for each part
 unfoldable pub each : (List Key → Forest → Forest) → List (List Key) → Forest

@@ -22,5 +22,5 @@ unfoldable pub member : Above → Forest → Key → Bool
 member above none x = false
 member above (leaf s ts more) x =
     cond (meets above s (x .strings)) (goesOn s (x .strings) && among (remains s x) ts) (member above more x)
-member above (inner d s kids more) x =
-    cond (meets above s (x .strings)) (goesOn s (x .strings) && member (below d) kids (remains s x)) (member above more x)
+member above (inner d s children more) x =
+    cond (meets above s (x .strings)) (goesOn s (x .strings) && member (below d) children (remains s x)) (member above more x)

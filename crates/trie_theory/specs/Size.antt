@@ -10,19 +10,19 @@ use Rattle.trie_theory.specs.SmallTrie.{outcome}
 unfoldable pub cost : ℕ → ℕ → Forest → ℕ
 cost h u none = 0
 cost h u (leaf s ts more) = h + total s + sum (λ t. u + total (t .strings)) ts + cost h u more
-cost h u (inner d s kids more) = h + total s + cost h u kids + cost h u more
+cost h u (inner d s children more) = h + total s + cost h u children + cost h u more
 
 -- the number of nodes
 unfoldable pub nodes : Forest → ℕ
 nodes none = 0
 nodes (leaf s ts more) = suc (nodes more)
-nodes (inner d s kids more) = suc (nodes kids + nodes more)
+nodes (inner d s children more) = suc (nodes children + nodes more)
 
 -- the most nodes one below the other
 unfoldable pub height : Forest → ℕ
 height none = 0
 height (leaf s ts more) = max 1 (height more)
-height (inner d s kids more) = max (suc (height kids)) (height more)
+height (inner d s children more) = max (suc (height children)) (height more)
 
 -- The bytes by which the addition of x makes tries longer: a suffix, or a leaf and a new parent, or a leaf, each with what
 -- remains of the key there
@@ -34,9 +34,9 @@ growth h u above (leaf s ts more) x =
     (h + h + u + total (strip (commons s (x .strings)) (x .strings)))
     (h + u + total (x .strings))
     (growth h u above more x)
-growth h u above (inner d s kids more) x =
-    outcome above s (inner d s kids more) (x .strings)
-    (growth h u (below d) kids (remains s x))
+growth h u above (inner d s children more) x =
+    outcome above s (inner d s children more) (x .strings)
+    (growth h u (below d) children (remains s x))
     (h + h + u + total (strip (commons s (x .strings)) (x .strings)))
     (h + u + total (x .strings))
     (growth h u above more x)

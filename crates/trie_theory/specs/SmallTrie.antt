@@ -72,12 +72,12 @@ added above (leaf s ts more) x =
     (split above (λ s′ m. leaf s′ ts m) s x more)
     (alone x (leaf s ts more))
     (leaf s ts (added above more x))
-added above (inner d s kids more) x =
-    outcome above s (inner d s kids more) (x .strings)
-    (inner d s (added (below d) kids (remains s x)) more)
-    (split above (λ s′ m. inner d s′ kids m) s x more)
-    (alone x (inner d s kids more))
-    (inner d s kids (added above more x))
+added above (inner d s children more) x =
+    outcome above s (inner d s children more) (x .strings)
+    (inner d s (added (below d) children (remains s x)) more)
+    (split above (λ s′ m. inner d s′ children m) s x more)
+    (alone x (inner d s children more))
+    (inner d s children (added above more x))
 
 -- keys added in their sequence
 unfoldable pub grown : Forest → List Key → Forest

@@ -30,17 +30,17 @@ pub record Node (n : ℕ) (above : Above) (s : Strings) (more : Forest) : Type 0
 unfoldable pub Sound : ℕ → Above → Forest → Type 0
 Sound n above none = Unit {0}
 Sound n above (leaf s ts more) = Node n above s more × (1 ≤ length ts) × All (Wide n) ts × Sound n above more
-Sound n above (inner d s kids more) =
-    Node n above s more × (2 ≤ length (tops kids)) × Sound n (below d) kids × Sound n above more
+Sound n above (inner d s children more) =
+    Node n above s more × (2 ≤ length (tops children)) × Sound n (below d) children × Sound n above more
 
 -- siblings stand ascending by their branching bytes
 unfoldable pub Ascending : Above → Forest → Type 0
 Ascending above none = Unit {0}
 Ascending above (leaf s ts more) = (ahead above s more ≡ true) × Ascending above more
-Ascending above (inner d s kids more) = (ahead above s more ≡ true) × Ascending (below d) kids × Ascending above more
+Ascending above (inner d s children more) = (ahead above s more ≡ true) × Ascending (below d) children × Ascending above more
 
 -- a suffix has no byte: one path and value for each leaf, with all their references
 unfoldable pub Bare : Forest → Type 0
 Bare none = Unit {0}
 Bare (leaf s ts more) = All (λ t. total (t .strings) ≡ 0) ts × Bare more
-Bare (inner d s kids more) = Bare kids × Bare more
+Bare (inner d s children more) = Bare children × Bare more

@@ -28,9 +28,9 @@ unfoldable pub walk : Strings → Forest → Key → List Step
 walk k none x = []
 walk k (leaf s ts more) x =
     cond (goesOn (join k s) (x .strings)) (stepAt (join k s) (length ts) 0 ∷ []) (walk k more x)
-walk k (inner d s kids more) x =
+walk k (inner d s children more) x =
     cond (goesOn (join k s) (x .strings))
-    (stepAt (join k s) (length (keys (join k s) kids)) (suc d) ∷ walk (join k s) kids x)
+    (stepAt (join k s) (length (keys (join k s) children)) (suc d) ∷ walk (join k s) children x)
     (walk k more x)
 
 -- how a node branches

@@ -2,20 +2,15 @@
 use mathlib.Core.Path.{_≡_, refl}
 use Prim.Native.Nat.{ℕ}
 use Prim.Native.String.{String}
-use Prim.Native.Char.{code}
 use mathlib.Core.List.{List, [], _∷_, _++_, map}
 use lib.ListN.{replicate}
+pub use Rattle.buffer.specs.Text.{text}
 use Rattle.trie_theory.specs.Forest.{Strings, Key, Forest, none, leaf, inner}
 use Rattle.trie_theory.specs.Position.{position}
 use Rattle.trie_theory.specs.Parts.{parts}
 use Rattle.trie_theory.specs.Level.{levelOf}
 use Rattle.trie_theory.specs.Walk.{Step, walk}
 use Rattle.trie_theory.specs.Computing.{of-a-level}
-
--- the bytes of a text
-abbrev pub text : String → List ℕ
-text String.[] = []
-text (String._∷_ c s) = code c ∷ text s
 
 -- a text and the end byte
 abbrev pub ended : String → List ℕ

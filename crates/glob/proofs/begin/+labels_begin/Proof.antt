@@ -5,6 +5,8 @@ use lib.ListN.{length}
 use borrow.Author.Needs.{needs}
 use borrow.Fn.Kinds.{In}
 use borrow.Fn.PlainCycle.{Measures, is, falls, and}
+use Rattle.glob.specs.Inner.{Cut}
+use Rattle.glob.proofs.Cuts.{begun-next, cut-law}
 use Rattle.glob.proofs.Begins.{labels-end, labels-done, labels-more, last-cut, other-cut}
 use Rattle.glob.proofs.begin.labels_begin.Reads as labels-begin
 use Rattle.glob.proofs.begin.labels_begin.Kinds as labels-begin-kinds
@@ -12,7 +14,7 @@ use Rattle.glob.proofs.begin.+labels_begin.Lts-labels_begin as labels-b
 use Rattle.glob.proofs.begin.label_begins.Reads as label-begins-reads
 use Rattle.glob.proofs.fit.label_fits.Reads as label-fits-reads
 use Rattle.glob.proofs.split.is_deep.Reads as is-deep-reads
-use Rattle.glob.proofs.split.label_end.Reads as label-end-reads
+use Rattle.glob.proofs.split.next_slash.Reads as next-slash-reads
 use Rattle.glob.proofs.begin.+labels_begin.{statement}
 use Rattle.glob.proofs.begin.+labels_begin.Tie.{close}
 
@@ -27,7 +29,7 @@ labels-begin-below t = and 2 labels-begin-kinds.ps (falls 2 labels-begin-kinds.p
 
 -- what the callees of `labels_begin` ask and give
 abbrev labels-begin-calls : ℕ → labels-begin-lts.Claims
-labels-begin-calls t = (label-end-reads.Asked, label-end-reads.Learnt, is-deep-reads.Asked, is-deep-reads.Learnt, label-begins-reads.Asked, label-begins-reads.Learnt, label-fits-reads.Asked, label-fits-reads.Learnt, labels-begin-below t, labels-begin.Post)
+labels-begin-calls t = (next-slash-reads.Asked, next-slash-reads.Learnt, is-deep-reads.Asked, is-deep-reads.Learnt, label-begins-reads.Asked, label-begins-reads.Learnt, label-fits-reads.Asked, label-fits-reads.Learnt, labels-begin-below t, labels-begin.Post)
 
 labels-begin-returns : (t : ℕ) → labels-begin-lts.Need-returns (labels-begin-calls t) (labels-begin-at t) labels-begin.Post
 labels-begin-returns t c = labels-end (c .before .before .before .args .pattern .now) (c .before .before .before .args .known .now) (c .if1 .taken) (c .before .before .before .pre .1 .1)
@@ -35,27 +37,51 @@ labels-begin-returns t c = labels-end (c .before .before .before .args .pattern 
 labels-begin-returns-2 : (t : ℕ) → labels-begin-lts.Need-returns-2 (labels-begin-calls t) (labels-begin-at t) labels-begin.Post
 labels-begin-returns-2 t c = labels-done (c .before .before .before .before .args .pattern .now) (c .before .before .before .before .args .known .now) (c .before .if1 .left) (c .before .before .before .before .pre .1 .0) (c .if2 .taken)
 
+-- the first labels, cut off
+labels-begin-cuts : (t : ℕ) (c : labels-begin-lts.After-next-slash2 (labels-begin-calls t) (labels-begin-at t) labels-begin.Post) → Cut (c .before .before .before .before .before .before .args .pattern .now) (c .before .next-slash .result) × Cut (c .before .before .before .before .before .before .args .known .now) (c .next-slash2 .result)
+labels-begin-cuts t c =
+    let start = c .before .before .before .before .before .before in
+    let a = c .before .next-slash in
+    let b = c .next-slash2 in
+    (cut-law (start .args .pattern .now) (a .result) (c .before .before .before .if1 .left) (start .pre .1 .0) (a .ensures .0) (a .ensures .1), cut-law (start .args .known .now) (b .result) (c .before .before .if2 .left) (start .pre .1 .1) (b .ensures .0) (b .ensures .1))
+
 labels-begin-returns-3 : (t : ℕ) → labels-begin-lts.Need-returns-3 (labels-begin-calls t) (labels-begin-at t) labels-begin.Post
 labels-begin-returns-3 t c =
-    let law = labels-more (c .before .before .before .before .before .before .before .before .before .args .pattern .now) (c .before .before .before .before .before .before .before .before .before .args .known .now) (c .before .before .before .before .label-end .result) (c .before .before .before .label-end2 .result) (c .before .before .before .before .label-end .ensures) (c .before .before .before .label-end2 .ensures) in
+    let d = c .before .before .before in
+    let known = d .before .before .before .before .before .before .args .known .now in
+    let cuts = labels-begin-cuts t d in
+    let law = labels-more (d .before .before .before .before .before .before .args .pattern .now) known (d .before .next-slash .result) (d .next-slash2 .result) (cuts .0) (cuts .1) in
     rw (law, sym (c .before .is-deep .ensures) ∙ c .if3 .taken)
 
 labels-begin-returns-4 : (t : ℕ) → labels-begin-lts.Need-returns-4 (labels-begin-calls t) (labels-begin-at t) labels-begin.Post
 labels-begin-returns-4 t c =
-    let law = labels-more (c .before .before .before .before .before .before .before .before .before .before .before .before .before .args .pattern .now) (c .before .before .before .before .before .before .before .before .before .before .before .before .before .args .known .now) (c .before .before .before .before .before .before .before .before .label-end .result) (c .before .before .before .before .before .before .before .label-end2 .result) (c .before .before .before .before .before .before .before .before .label-end .ensures) (c .before .before .before .before .before .before .before .label-end2 .ensures) in
-    rw (law, sym (c .before .before .before .before .before .is-deep .ensures) ∙ c .before .before .before .before .if3 .left, last-cut (c .before .before .before .before .before .before .before .before .before .before .before .before .before .args .known .now) (c .before .before .before .before .before .before .before .label-end2 .result) (c .before .before .before .if4 .taken)) (c .label-begins .ensures)
+    let d = c .before .before .before .before .before .before .before in
+    let known = d .before .before .before .before .before .before .args .known .now in
+    let cuts = labels-begin-cuts t d in
+    let law = labels-more (d .before .before .before .before .before .before .args .pattern .now) known (d .before .next-slash .result) (d .next-slash2 .result) (cuts .0) (cuts .1) in
+    rw (law, sym (c .before .before .before .before .before .is-deep .ensures) ∙ c .before .before .before .before .if3 .left, last-cut known (d .next-slash2 .result) (c .before .before .before .if4 .taken)) (c .label-begins .ensures)
+
+labels-begin-requires : (t : ℕ) → labels-begin-lts.Need-labels-begin-requires (labels-begin-calls t) (labels-begin-at t) labels-begin.Post
+labels-begin-requires t c κs =
+    let d = c .before .before .before .before .before .before .before .before .before .before in
+    let start = d .before .before .before .before .before .before in
+    (search needs, (begun-next (start .args .pattern .now) 1 (d .before .next-slash .result) (d .before .next-slash .ensures .0), begun-next (start .args .known .now) 1 (d .next-slash2 .result) (d .next-slash2 .ensures .0)))
 
 labels-begin-returns-5 : (t : ℕ) → labels-begin-lts.Need-returns-5 (labels-begin-calls t) (labels-begin-at t) labels-begin.Post
 labels-begin-returns-5 t c =
-    let law = labels-more (c .before .before .before .before .before .before .before .before .before .before .before .before .before .before .before .before .before .args .pattern .now) (c .before .before .before .before .before .before .before .before .before .before .before .before .before .before .before .before .before .args .known .now) (c .before .before .before .before .before .before .before .before .before .before .before .before .label-end .result) (c .before .before .before .before .before .before .before .before .before .before .before .label-end2 .result) (c .before .before .before .before .before .before .before .before .before .before .before .before .label-end .ensures) (c .before .before .before .before .before .before .before .before .before .before .before .label-end2 .ensures) in
-    let more = other-cut (c .before .before .before .before .before .before .before .before .before .before .before .before .before .before .before .before .before .args .known .now) (c .before .before .before .before .before .before .before .before .before .before .before .label-end2 .result) (c .before .before .before .before .before .before .before .before .before .before .before .label-end2 .ensures) (c .before .before .before .before .before .before .before .if4 .left) in
-    rw (law, sym (c .before .before .before .before .before .before .before .before .before .is-deep .ensures) ∙ c .before .before .before .before .before .before .before .before .if3 .left, more, sym (c .before .before .before .before .label-fits .ensures) ∙ c .before .before .before .if5 .taken) (c .labels-begin .ensures)
+    let d = c .before .before .before .before .before .before .before .before .before .before .before in
+    let known = d .before .before .before .before .before .before .args .known .now in
+    let cuts = labels-begin-cuts t d in
+    let law = labels-more (d .before .before .before .before .before .before .args .pattern .now) known (d .before .next-slash .result) (d .next-slash2 .result) (cuts .0) (cuts .1) in
+    rw (law, sym (c .before .before .before .before .before .before .before .before .before .is-deep .ensures) ∙ c .before .before .before .before .before .before .before .before .if3 .left, other-cut known (d .next-slash2 .result) (cuts .1) (c .before .before .before .before .before .before .before .if4 .left), sym (c .before .before .before .before .label-fits .ensures) ∙ c .before .before .before .if5 .taken) (c .labels-begin .ensures)
 
 labels-begin-returns-6 : (t : ℕ) → labels-begin-lts.Need-returns-6 (labels-begin-calls t) (labels-begin-at t) labels-begin.Post
 labels-begin-returns-6 t c =
-    let law = labels-more (c .before .before .before .before .before .before .before .before .before .before .before .before .before .before .args .pattern .now) (c .before .before .before .before .before .before .before .before .before .before .before .before .before .before .args .known .now) (c .before .before .before .before .before .before .before .before .before .label-end .result) (c .before .before .before .before .before .before .before .before .label-end2 .result) (c .before .before .before .before .before .before .before .before .before .label-end .ensures) (c .before .before .before .before .before .before .before .before .label-end2 .ensures) in
-    let more = other-cut (c .before .before .before .before .before .before .before .before .before .before .before .before .before .before .args .known .now) (c .before .before .before .before .before .before .before .before .label-end2 .result) (c .before .before .before .before .before .before .before .before .label-end2 .ensures) (c .before .before .before .before .if4 .left) in
-    rw (law, sym (c .before .before .before .before .before .before .is-deep .ensures) ∙ c .before .before .before .before .before .if3 .left, more, sym (c .before .label-fits .ensures) ∙ c .if5 .left)
+    let d = c .before .before .before .before .before .before .before .before in
+    let known = d .before .before .before .before .before .before .args .known .now in
+    let cuts = labels-begin-cuts t d in
+    let law = labels-more (d .before .before .before .before .before .before .args .pattern .now) known (d .before .next-slash .result) (d .next-slash2 .result) (cuts .0) (cuts .1) in
+    rw (law, sym (c .before .before .before .before .before .before .is-deep .ensures) ∙ c .before .before .before .before .before .if3 .left, other-cut known (d .next-slash2 .result) (cuts .1) (c .before .before .before .before .if4 .left), sym (c .before .label-fits .ensures) ∙ c .if5 .left)
 
 pub +labels-begin-spec : {M : Type 1} → statement M
 +labels-begin-spec = close μ-labels-begin λ t. labels-begin-lts.spec (labels-begin-calls t)
@@ -91,6 +117,6 @@ pub +labels-begin-spec : {M : Type 1} → statement M
     (λ c. search needs)
     (λ c. search needs)
     (λ c. search needs)
-    (λ c κs. search needs)
+    (labels-begin-requires t)
     (labels-begin-returns-5 t)
     (labels-begin-returns-6 t)

@@ -1,21 +1,22 @@
 -- The proof of the cycle of calls {after_star, label}. The measure is the pattern's bytes left, twice, and one more for `after_star`, which calls
--- `label` with the pattern that it is given. The invariant of the loop: an answer for what is left of the label is the answer for all of it.
+-- `label` with the pattern that it is given. The invariant of the loop: `Tried`.
 -- Assumes nothing.
 use mathlib.Core.Path.{_≡_, sym, subst}
 use mathlib.Core.List.{List}
 use mathlib.Core.Bool.{Bool, false}
 use Prim.Native.Nat.{ℕ, _+_, _*_, _-_, _<_, _≤_}
+use native.Mathlib.Omega.{arith}
 use lib.ListN.{length, getD}
 use lib.Dec.{eqb}
 use borrow.Author.Tests.{eq-eqb, ne-eqb}
 use borrow.Author.Needs.{needs}
 use borrow.Fn.Kinds.{In}
 use borrow.Fn.PlainCycle.{Measures, is, falls, and}
-use Rattle.glob.specs.Fit.{afterSome, first, fitsLabel}
+use Rattle.glob.specs.Fit.{first, fitsLabel}
 use Rattle.glob.specs.Inner.{Says}
 use Rattle.glob.specs.declared.fit.Trial.the-variants.{Fits, Never}
 use Rattle.glob.proofs.Parts.{rest, split, back, back-all, back-step, back-end, no-items, an-item}
-use Rattle.glob.proofs.Trials.{Passes, pass-on, pass-end, now-some, never-twice, first-on, first-off, star-law, byte-law, end-law}
+use Rattle.glob.proofs.Trials.{Tried, tried-none, tried-on, now-some, never-twice, first-on, first-off, star-law, byte-law, end-law}
 use Rattle.glob.proofs.fit.after_star.Reads as after-star
 use Rattle.glob.proofs.fit.after_star.Kinds as after-star-kinds
 use Rattle.glob.proofs.fit.+after_star+label.Lts-after_star as after-star-lts
@@ -51,25 +52,27 @@ abbrev label-calls : ℕ → label-lts.Claims
 label-calls t = (after-star-below t, after-star.Post, label-below t, label.Post)
 
 abbrev after-star-Inv-loop : after-star-lts.InvT-loop
-after-star-Inv-loop p s i₀ i = (i ≤ length s) × Passes (fitsLabel p) (back s i) s
+after-star-Inv-loop p s i₀ i = (i ≤ length s + 1) × Tried (fitsLabel p) (length s) i (back s i) s
 
 abbrev after-star-μ-loop : after-star-lts.MeasureT-loop
-after-star-μ-loop p s i₀ i = length s - i
+after-star-μ-loop p s i₀ i = length s + 1 - i
 
 after-star-loop-holds : (t : ℕ) → after-star-lts.Need-loop-holds (after-star-calls t) (after-star-at t) after-star.Post after-star-Inv-loop after-star-μ-loop
-after-star-loop-holds t c = (search needs, λ r y. subst (λ (l : List ℕ). Says (afterSome (fitsLabel (c .before .before .args .p .now))) l r) (back-all (c .before .before .args .s .now)) y)
+after-star-loop-holds t c =
+    let s = c .before .before .args .s .now in
+    (search needs, tried-none (fitsLabel (c .before .before .args .p .now)) (length s) (back s 0) s (back-all s))
 
 after-star-returns : (t : ℕ) → after-star-lts.Need-returns (after-star-calls t) (after-star-at t) after-star.Post after-star-Inv-loop after-star-μ-loop
 after-star-returns t c =
     let k = fitsLabel (c .before .before .before .before .before .before .before .before .args .p .now) in
     let l = back (c .before .before .before .before .before .before .before .before .args .s .now) (c .before .before .before .before .before .loop .i) in
-    c .before .before .before .before .before .loop .inv .1 Fits (now-some k l (subst (Says k l) (c .enum-told .given .1) (c .before .before .label .ensures)))
+    c .before .before .before .before .before .loop .inv .1 .0 (omega (arith, c .before .before .before .before .loop-test .taken)) Fits (now-some k l (subst (Says k l) (c .enum-told .given .1) (c .before .before .label .ensures)))
 
 after-star-returns-2 : (t : ℕ) → after-star-lts.Need-returns-2 (after-star-calls t) (after-star-at t) after-star.Post after-star-Inv-loop after-star-μ-loop
 after-star-returns-2 t c =
     let k = fitsLabel (c .before .before .before .before .before .before .before .before .args .p .now) in
     let l = back (c .before .before .before .before .before .before .before .before .args .s .now) (c .before .before .before .before .before .loop .i) in
-    c .before .before .before .before .before .loop .inv .1 Never (never-twice k l (subst (Says k l) (c .enum-told2 .given .1) (c .before .before .label .ensures)))
+    c .before .before .before .before .before .loop .inv .1 .0 (omega (arith, c .before .before .before .before .loop-test .taken)) Never (never-twice k l (subst (Says k l) (c .enum-told2 .given .1) (c .before .before .label .ensures)))
 
 after-star-loop-again : (t : ℕ) → after-star-lts.Need-loop-again (after-star-calls t) (after-star-at t) after-star.Post after-star-Inv-loop after-star-μ-loop
 after-star-loop-again t c =
@@ -77,14 +80,11 @@ after-star-loop-again t c =
     let i = c .before .before .before .before .before .loop .i in
     let k = fitsLabel (c .before .before .before .before .before .before .before .before .args .p .now) in
     let no = subst (Says k (back s i)) (c .enum-told3 .given .1) (c .before .before .label .ensures) in
-    let cut = back-step s i (c .before .before .before .before .loop-test .taken) in
-    (search needs, pass-on k (getD s i 0) (back s (i + 1)) s (subst (λ (l : List ℕ). k l ≡ false) cut no) (subst (λ (l : List ℕ). Passes k l s) cut (c .before .before .before .before .before .loop .inv .1)))
+    let l : i ≤ length s = omega (arith, c .before .before .before .before .loop-test .taken) in
+    (search needs, tried-on k (length s) i (i + 1) (getD s i 0) (back s i) (back s (i + 1)) s l (λ m. back-step s i (omega arith)) (λ m. back-end s i (omega arith)) no (c .before .before .before .before .before .loop .inv .1))
 
 after-star-returns-3 : (t : ℕ) → after-star-lts.Need-returns-3 (after-star-calls t) (after-star-at t) after-star.Post after-star-Inv-loop after-star-μ-loop
-after-star-returns-3 t c =
-    let s = c .before .before .before .before .before .before .args .s .now in
-    let i = c .before .before .before .loop .i in
-    pass-end (fitsLabel (c .before .before .before .before .before .before .args .p .now)) (back s i) s (c .label2 .result) (back-end s i (c .before .before .loop-test .left)) (c .before .before .before .loop .inv .1) (c .label2 .ensures)
+after-star-returns-3 t c = never-twice (fitsLabel (c .before .before .before .before .args .p .now)) (c .before .before .before .before .args .s .now) (c .before .loop .inv .1 .1 (omega (arith, c .loop-test .left)))
 
 label-returns : (t : ℕ) → label-lts.Need-returns (label-calls t) (label-at t) label.Post
 label-returns t c = rw (end-law (c .before .before .before .before .args .p .now) (c .before .if1 .taken), no-items (c .before .before .before .before .args .s .now) (c .if2 .taken))
@@ -135,10 +135,6 @@ pub +after-star+label-spec : {M : Type 1} → statement M
     (λ c. search needs)
     (λ c. search needs)
     (after-star-loop-again t)
-    (λ c. search needs)
-    (λ c. search needs)
-    (λ c. search needs)
-    (λ c κs. search needs)
     (after-star-returns-3 t))
     λ t. label-lts.spec (label-calls t)
     (label-at t)

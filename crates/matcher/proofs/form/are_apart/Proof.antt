@@ -11,26 +11,26 @@ use Rattle.matcher.proofs.form.are_apart.Statement.{statement}
 use Rattle.matcher.proofs.form.are_apart.Tie as tie
 
 abbrev Inv-loop : tie.InvT-loop
-Inv-loop s mark i₀ i = (i ≤ length s) × (apart mark s ≡ apart mark (drop i s))
+Inv-loop s mark marks i₀ i = (i ≤ length s) × (apart mark s ≡ apart mark (drop i s))
 
 abbrev μ-loop : tie.MeasureT-loop
-μ-loop s mark i₀ i = length s - i
+μ-loop s mark marks i₀ i = length s - i
 
 returns : tie.Need-returns Inv-loop μ-loop
 returns c =
-    let h = c .before .before .before .before .before in
+    let h = c .before .before .before .before .before .before in
     let a = h .before .before .args in
     let b = c .before .before .byte-at in
     let e = sym (c .before .may-stand .ensures) ∙ not-true _ (c .if1 .taken) in
-    sym (h .loop .inv .1 ∙ apart-stop (a .mark) (a .s .now) (h .loop .i) (c .before .before .before .before .loop-test .taken) (b .result) (b .ensures) e)
+    sym (h .loop .inv .1 ∙ apart-stop (a .mark) (a .s .now) (h .loop .i) (c .before .before .before .before .before .loop-test .taken) (b .result) (b .ensures) e)
 
 loop-again : tie.Need-loop-again Inv-loop μ-loop
 loop-again c =
-    let h = c .before .before .before .before .before in
+    let h = c .before .before .before .before .before .before in
     let a = h .before .before .args in
     let b = c .before .before .byte-at in
     let e = sym (c .before .may-stand .ensures) ∙ not-false _ (c .if1 .left) in
-    (search needs, h .loop .inv .1 ∙ apart-on (a .mark) (a .s .now) (h .loop .i) (c .before .before .before .before .loop-test .taken) (b .result) (b .ensures) e)
+    (search needs, h .loop .inv .1 ∙ apart-on (a .mark) (a .s .now) (h .loop .i) (c .before .before .before .before .before .loop-test .taken) (b .result) (b .ensures) e)
 
 returns-2 : tie.Need-returns-2 Inv-loop μ-loop
 returns-2 c =

@@ -1,35 +1,73 @@
--- The root is entered; a child by the bytes with the branching byte added. Assumes nothing.
+-- The root is entered; a child by the answers with the branching byte added. Assumes nothing.
+use borrow.Author.Needs.{needs}
 use native.Mathlib.Omega.{arith}
-use mathlib.Core.Path.{ap₂, _∙_}
-use Prim.Native.Nat.{ℕ}
-use Rattle.entries.specs.Query.{reaches}
-use Rattle.gather.specs.KeySlots.{known}
+use mathlib.Core.Path.{_≡_, refl, ap, ap₂, _∙_}
+use mathlib.Core.Bool.{_&&_}
+use mathlib.Core.List.{_++_}
+use Prim.Native.Nat.{_-_}
+use lib.Seq.{length-take-le}
+use borrow.Author.Tests.{eq-eqb, ne-eqb}
+use Rattle.buffer.specs.Splice.{region}
+use Rattle.matcher.specs.Reach.{reachOf, goesOn}
+use Rattle.matcher.specs.declared.reach.Answer.{Answer}
+use Rattle.rows.specs.Sizes.{pathAt}
+use Rattle.trie_read.specs.Shape.{part}
 use Rattle.search.specs.Asked.{asked}
-use Rattle.search.proofs.Steps.{enters-root, enters-child}
+use Rattle.search.proofs.Steps.{enters-root, enters-value, enters-path, known-front}
 use Rattle.search.proofs.step.admits.Statement.{statement}
 use Rattle.search.proofs.step.admits.Tie as tie
 
 returns : tie.Need-returns
 returns c =
-    let a = c .before .before .before .args in
-    let pre = c .before .before .before .pre .1 in
-    enters-root (a .v) (a .p) (a .nv) (a .np) (a .key .now) (pre .0) (pre .1) (pre .2) (asked (a .pattern .now) (a .low) (a .high)) (a .kind) (c .if1 .taken)
+    let a = c .before .before .before .before .args in
+    (enters-root (asked (a .pattern .now) (a .low) (a .high)) (a .kind) (a .v) (a .p) (a .key .now) (part 7 (a .path) (a .t .now)) (part (a .path) (a .body) (a .t .now)) (c .if1 .taken), refl)
 
 returns-2 : tie.Need-returns-2
 returns-2 c =
-    let a = c .before .before .before .before .before .before .args in
-    let pre = c .before .before .before .before .before .before .pre .1 in
-    let q = asked (a .pattern .now) (a .low) (a .high) in
-    c .goes-on .ensures
-    ∙ ap₂ (λ (x y : ℕ). reaches q (known x y (a .key .now))) (c .before .before .one-more .ensures .0) (c .before .one-more2 .ensures .0)
-    ∙ enters-child (a .v) (a .p) (a .nv) (a .np) (a .key .now) (pre .0) (pre .1) (pre .2) q (a .kind) (pre .3) (c .before .before .before .if1 .left)
+    let a = c .before .before .before .before .before .before .before .before .before .before .args in
+    let pre = c .before .before .before .before .before .before .before .before .before .before .pre in
+    let is = c .before .before .before .before .before .if2 .taken in
+    let z : a .v - 0 ≡ a .v = omega arith in
+    let value = (rw z at (c .before .value-more .ensures (a .pattern .now))) (λ short. pre .1 .1 .bytes is (omega (arith, short, length-take-le (a .v) (a .key .now) (omega (arith, pre .1 .0))))) in
+    let other = rw (eq-eqb (a .kind) 1 is) at (pre .1 .1 .other) in (
+      c .goes-on .ensures
+          ∙ ap₂ (λ (x y : Answer). goesOn x && goesOn y) value other
+          ∙ enters-value (asked (a .pattern .now) (a .low) (a .high)) (a .kind) (a .v) (a .p) (a .key .now) (part 7 (a .path) (a .t .now)) (part (a .path) (a .body) (a .t .now)) is,
+      refl,
+    )
+
+returns-3 : tie.Need-returns-3
+returns-3 c =
+    let a = c .before .before .before .before .before .before .before .before .before .before .before .args in
+    let pre = c .before .before .before .before .before .before .before .before .before .before .before .pre in
+    let g = c .before .before .path-goes-on in
+    let end = c .before .before .before .before .before .one-more in
+    let other = rw (ne-eqb (a .kind) 1 (c .before .before .before .before .before .before .if2 .left)) at (pre .1 .1 .other) in (
+      g .ensures .0
+          ∙ ap (λ (x : Answer). goesOn x && goesOn (reachOf (a .pattern .now) (region (a .key .now) pathAt (a .p) ++ part (a .path) (end .result) (a .t .now)))) other
+          ∙ enters-path (asked (a .pattern .now) (a .low) (a .high)) (a .kind) (a .v) (a .p) (a .key .now) (part 7 (a .path) (a .t .now)) (a .t .now) (a .path) (a .body) (end .result) (pre .1 .0 .6) (c .before .before .before .before .before .before .if2 .left) (c .before .before .before .before .before .before .before .if1 .left) (pre .1 .0 .4) (end .ensures .0),
+      known-front (a .v) (a .p) (a .key .now) _ (pre .1 .0 .0) (g .kept .1 .1 .0 ∙ pre .1 .0 .0) (pre .1 .0 .1) (g .ensures .1),
+    )
 
 pub admits-spec : {M : Type 1} → statement M
 admits-spec =
     tie.close
     (tie.spec
     returns
-    (λ c κs. omega arith)
-    (λ c κs. omega arith)
-    (λ c κs. (c .before .before .before .before .before .pre .0, (c .before .before .before .before .before .pre .1 .0, omega (arith, c .before .one-more .ensures .1), omega (arith, c .one-more2 .ensures .1))))
-    returns-2)
+    (λ c. search needs)
+    (λ c. search needs)
+    (λ c. search needs)
+    (λ c. search needs)
+    (λ c. search needs)
+    (λ c. search needs)
+    (λ c κs. search needs)
+    (λ c κs. search needs)
+    (λ c. search needs)
+    returns-2
+    (λ c κs. search needs)
+    (λ c. search needs)
+    (λ c. search needs)
+    (λ c. search needs)
+    (λ c κs. search needs)
+    (λ c. search needs)
+    returns-3)

@@ -2,8 +2,7 @@
 use borrow.Author.Needs.{needs}
 use mathlib.Core.Path.{sym, ap, _∙_}
 use Rattle.matcher.specs.Reach.{goesOn}
-use Rattle.search.specs.Asked.{asked}
-use Rattle.search.proofs.Steps.{reaches-known}
+use Rattle.search.proofs.Steps.{both-goes}
 use Rattle.search.proofs.step.goes_on.Statement.{statement}
 use Rattle.search.proofs.step.goes_on.Tie as tie
 
@@ -15,6 +14,6 @@ goes-on-spec =
     (λ c. search needs)
     (λ c. search needs)
     (λ c. search needs)
-    (λ c. let a = c .before .before .before .before .before .args in sym (ap goesOn (c .enum-told .given .1)) ∙ reaches-known (asked (a .pattern .now) (a .low) (a .high)) (a .a) (a .b) (a .key .now) _ (c .before .before .ask .ensures))
-    (λ c. let a = c .before .before .before .before .before .args in sym (ap goesOn (c .enum-told2 .given .1)) ∙ reaches-known (asked (a .pattern .now) (a .low) (a .high)) (a .a) (a .b) (a .key .now) _ (c .before .before .ask .ensures))
-    (λ c. let a = c .before .before .before .before .before .args in sym (ap goesOn (c .enum-told3 .given .1)) ∙ reaches-known (asked (a .pattern .now) (a .low) (a .high)) (a .a) (a .b) (a .key .now) _ (c .before .before .ask .ensures)))
+    (λ c. sym (ap goesOn (c .enum-told .given .1)) ∙ ap goesOn (c .before .before .both .ensures) ∙ both-goes (c .before .before .before .args .value) (c .before .before .before .args .path))
+    (λ c. sym (ap goesOn (c .enum-told2 .given .1)) ∙ ap goesOn (c .before .before .both .ensures) ∙ both-goes (c .before .before .before .args .value) (c .before .before .before .args .path))
+    (λ c. sym (ap goesOn (c .enum-told3 .given .1)) ∙ ap goesOn (c .before .before .both .ensures) ∙ both-goes (c .before .before .before .args .value) (c .before .before .before .args .path)))

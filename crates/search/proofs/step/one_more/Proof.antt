@@ -10,6 +10,6 @@ one-more-spec =
     tie.close
     (tie.spec
     (λ c. search needs)
-    (λ c. (rw (eq-eqb (c .before .before .args .kind) (c .before .before .args .own) (c .before .if1 .taken), lt-ltb 0 (c .before .before .args .length) (c .if2 .taken)), omega arith))
-    (λ c. (rw (eq-eqb (c .before .before .args .kind) (c .before .before .args .own) (c .before .if1 .taken), le-ltb 0 (c .before .before .args .length) (c .if2 .left)), omega arith))
-    (λ c. (rw (ne-eqb (c .before .args .kind) (c .before .args .own) (c .if1 .left)), omega arith)))
+    (λ c. let a = c .before .before .args in (rw (eq-eqb (a .kind) (a .own) (c .before .if1 .taken), lt-ltb (a .path) (a .body) (c .if2 .taken)), omega arith, omega arith, omega arith))
+    (λ c. let a = c .before .before .args in (rw (eq-eqb (a .kind) (a .own) (c .before .if1 .taken), le-ltb (a .path) (a .body) (c .if2 .left)), omega arith, omega arith, omega arith))
+    (λ c. let a = c .before .args in (rw (ne-eqb (a .kind) (a .own) (c .if1 .left)), omega arith, omega arith, omega arith)))

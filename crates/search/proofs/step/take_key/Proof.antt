@@ -1,45 +1,84 @@
--- The slot first, then the test on it. Assumes nothing.
+-- The lengths, the value, the path, and then the slot. Assumes nothing.
 use borrow.Author.Needs.{needs}
-use mathlib.Core.Path.{sym, _∙_}
+use native.Mathlib.Omega.{arith}
+use mathlib.Core.Path.{_≡_, _∙_}
+use mathlib.Core.List.{List}
+use Prim.Native.Nat.{ℕ, _-_, _≤_}
+use lib.ListN.{length, take}
+use lib.Seq.{length-take-le}
+use Rattle.rows.specs.Sizes.{valueSize}
+use Rattle.trie_read.specs.Shape.{part}
+use Rattle.trie_read.proofs.Stretch.{length-part}
+use Rattle.entries.specs.Query.{Query}
 use Rattle.search.specs.Asked.{asked}
-use Rattle.search.proofs.Steps.{taken-short, taken-slot, taken-none}
+use Rattle.search.specs.Spans.{Spans}
+use Rattle.search.proofs.Steps.{known-front, wants-told, taken-none, taken-out, taken-slot}
 use Rattle.search.proofs.step.take_key.Statement.{statement}
 use Rattle.search.proofs.step.take_key.Tie as tie
 
-matches-key-requires : tie.Need-matches-key-requires
-matches-key-requires c κs =
-    let a = c .before .before .before .before .before .before .before .before .before .args in
-    let pre = c .before .before .before .before .before .before .before .before .before .pre .1 in
-    let has = sym (c .before .before .before .before .compose .ensures .0) ∙ c .before .if1 .taken in (
-      c .before .before .before .before .before .before .before .before .before .pre .0,
-      (c .before .before .before .before .compose .kept .0 ∙ pre .0, taken-short (asked (a .pattern .now) (a .low) (a .high)) (a .v) (a .p) (a .b .now) (a .path) (a .next) (a .key .now) (pre .0) (pre .1) (pre .2) (pre .4) (pre .5) has),
-    )
+-- the span is that of the suffix's value bytes
+of-rest : {q : Query} {k : List ℕ} {from to : ℕ} (b : List ℕ) (v path : ℕ) → path ≤ length b → path - 22 ≡ valueSize - v → Spans q k (valueSize - v) from to
+    → Spans q k (length (part 22 path b)) from to
+of-rest b v path h e s = rw (length-part b 22 path h ∙ e) s
 
 returns : tie.Need-returns
 returns c =
-    let a = c .before .before .before .before .before .before .before .before .before .before .args in
-    let pre = c .before .before .before .before .before .before .before .before .before .before .pre .1 in
-    let has = sym (c .before .before .before .before .before .compose .ensures .0) ∙ c .before .before .if1 .taken in
-    taken-slot (asked (a .pattern .now) (a .low) (a .high)) (a .v) (a .p) (a .b .now) (a .path) (a .next) (a .key .now) (pre .0) (pre .1) (pre .2) (pre .4) (pre .5) _ _ has
-    (rw (c .before .before .if1 .taken) at (c .before .before .before .before .before .compose .ensures .1)) (c .matches-key .ensures)
+    let a = c .before .before .before .before .args in
+    let pre = c .before .before .before .before .pre .1 in
+    λ low high l. taken-none (asked (a .pattern .now) low high) (a .v) (a .p) (a .b .now) (a .path) (a .next) (a .key .now) (pre .0) (pre .1) (pre .2) (pre .4) (pre .5)
+    (λ e m. c .if1 .taken e)
 
 returns-2 : tie.Need-returns-2
 returns-2 c =
-    let a = c .before .before .before .before .before .before .before .before .args in
-    let pre = c .before .before .before .before .before .before .before .before .pre .1 in
-    let has = sym (c .before .before .before .compose .ensures .0) ∙ c .if1 .left in
-    taken-none (asked (a .pattern .now) (a .low) (a .high)) (a .v) (a .p) (a .b .now) (a .path) (a .next) (a .key .now) (pre .0) (pre .1) (pre .2) (pre .4) (pre .5) _ has
-    (rw (c .if1 .left) at (c .before .before .before .compose .ensures .1))
+    let a = c .before .before .before .before .before .args in
+    let pre = c .before .before .before .before .before .pre .1 in
+    λ low high l. taken-none (asked (a .pattern .now) low high) (a .v) (a .p) (a .b .now) (a .path) (a .next) (a .key .now) (pre .0) (pre .1) (pre .2) (pre .4) (pre .5)
+    (λ e m. omega (arith, m, c .if2 .taken))
+
+returns-3 : tie.Need-returns-3
+returns-3 c =
+    let a = c .before .before .before .before .before .before .before .before .before .before .before .before .before .before .before .before .before .args in
+    let pre = c .before .before .before .before .before .before .before .before .before .before .before .before .before .before .before .before .before .pre .1 in
+    let m = c .before .before .before .before .before .before .before .path-matches in
+    λ low high l.
+    let q = asked (a .pattern .now) low high in
+    let value = c .before .before .before .before .before .before .before .before .before .before .value-with .ensures q (take (a .v) (a .key .now)) (length-take-le (a .v) (a .key .now) (omega arith)) (of-rest (a .b .now) (a .v) (a .path) (omega arith) (omega (arith, c .before .before .before .before .before .before .before .before .before .before .before .before .before .if1 .left)) l) in
+    let wants = wants-told q (a .v) (a .p) (a .b .now) (a .path) (a .next) (a .key .now) (pre .0) (pre .1) (pre .2) (pre .4) (pre .5) _ _ value (m .ensures .0) ∙ c .before .before .before .before .if3 .taken in
+    taken-slot q (a .v) (a .p) (a .b .now) (a .path) (a .next) (a .key .now) (pre .0) (pre .1) (pre .2) (pre .4) (pre .5) _
+    (known-front (a .v) (a .p) (a .key .now) _ (pre .0) (m .kept .1 .1 .0 ∙ pre .0) (pre .1) (m .ensures .1)) _ _ wants (c .before .before .compose .ensures .0) (c .before .before .compose .ensures .1)
+
+returns-4 : tie.Need-returns-4
+returns-4 c =
+    let a = c .before .before .before .before .before .before .before .before .before .before .before .before .before .args in
+    let pre = c .before .before .before .before .before .before .before .before .before .before .before .before .before .pre .1 in
+    let m = c .before .before .before .path-matches in
+    λ low high l.
+    let q = asked (a .pattern .now) low high in
+    let value = c .before .before .before .before .before .before .value-with .ensures q (take (a .v) (a .key .now)) (length-take-le (a .v) (a .key .now) (omega arith)) (of-rest (a .b .now) (a .v) (a .path) (omega arith) (omega (arith, c .before .before .before .before .before .before .before .before .before .if1 .left)) l) in
+    let wants = wants-told q (a .v) (a .p) (a .b .now) (a .path) (a .next) (a .key .now) (pre .0) (pre .1) (pre .2) (pre .4) (pre .5) _ _ value (m .ensures .0) ∙ c .if3 .left in
+    taken-out q (a .v) (a .p) (a .b .now) (a .path) (a .next) (a .key .now) (pre .0) (pre .1) (pre .2) (pre .4) (pre .5) _
+    (known-front (a .v) (a .p) (a .key .now) _ (pre .0) (m .kept .1 .1 .0 ∙ pre .0) (pre .1) (m .ensures .1)) wants
 
 pub take-key-spec : {M : Type 1} → statement M
 take-key-spec =
     tie.close
     (tie.spec
-    (λ c κs. search needs)
     (λ c. search needs)
-    (λ c. search needs)
-    matches-key-requires
     (λ c. search needs)
     returns
     (λ c. search needs)
-    returns-2)
+    (λ c. search needs)
+    returns-2
+    (λ c. search needs)
+    (λ c. search needs)
+    (λ c. search needs)
+    (λ c κs. search needs)
+    (λ c. search needs)
+    (λ c. search needs)
+    (λ c. search needs)
+    (λ c κs. search needs)
+    (λ c κs. search needs)
+    (λ c. search needs)
+    returns-3
+    (λ c. search needs)
+    returns-4)

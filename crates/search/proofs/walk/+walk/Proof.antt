@@ -16,11 +16,12 @@ use Rattle.gather.specs.KeySlots.{known}
 use Rattle.search.specs.Asked.{asked}
 use Rattle.search.specs.Steps.{over}
 use Rattle.search.specs.Searches.{TriesFound, BodyFound}
-use Rattle.search.proofs.Steps.{descended-room}
+use Rattle.search.proofs.Steps.{descended-room, common-kept}
 use Rattle.search.proofs.Finding.{Finding, finding-from, finding-end, tries-end, tries-bad, siblings-in, siblings-past, body-suffixes, body-low}
 use Rattle.search.proofs.walk.walk.Reads as walk
 use Rattle.search.proofs.walk.walk.Kinds as walk-kinds
 use Rattle.search.proofs.walk.+walk.Lts-walk as walk-lts
+use Rattle.search.proofs.step.ask_once.Reads as ask-once-reads
 use Rattle.search.proofs.step.descend.Reads as descend-reads
 use Rattle.search.proofs.walk.suffixes.Reads as suffixes-reads
 use Rattle.trie_read.proofs.head.read_head.Reads as read-head-reads
@@ -38,15 +39,15 @@ abbrev walk-below : ℕ → In 4 walk-kinds.ps
 walk-below t = and 4 walk-kinds.ps (falls 4 walk-kinds.ps _<_ μ-walk t) walk.Pre
 
 abbrev calls : ℕ → walk-lts.Claims
-calls t = (suffixes-reads.Asked, suffixes-reads.Learnt, read-head-reads.Asked, read-head-reads.Learnt, descend-reads.Asked, descend-reads.Learnt, walk-below t, walk.Post)
+calls t = (suffixes-reads.Asked, suffixes-reads.Learnt, ask-once-reads.Asked, ask-once-reads.Learnt, read-head-reads.Asked, read-head-reads.Learnt, descend-reads.Asked, descend-reads.Learnt, walk-below t, walk.Post)
 
 abbrev Inv-loop : walk-lts.InvT-loop
-Inv-loop body kind pattern low high key₀ v p depth answer₀ room rows nodes t₀ m₀ n₀ key answer t m n =
+Inv-loop body kind pattern low high key₀ v p depth answer₀ room rows nodes common t₀ m₀ n₀ key answer t m n =
     (m + length t ≤ rows + length body) × (n + length t ≤ nodes + length body) × (length key ≡ slotSize) × (length answer ≡ length answer₀)
     × Finding (BodyFound (asked pattern low high) kind depth (known v p key₀) body) (TriesFound (asked pattern low high) (over kind) depth (known v p key₀) t) v p room rows nodes answer₀ key₀ answer key m n
 
 abbrev μ-loop : walk-lts.MeasureT-loop
-μ-loop body kind pattern low high key₀ v p depth answer₀ room rows nodes t₀ m₀ n₀ key answer t m n = length t
+μ-loop body kind pattern low high key₀ v p depth answer₀ room rows nodes common t₀ m₀ n₀ key answer t m n = length t
 
 -- the places of the first node lie in what is left
 inside : (t : ℕ) (c : walk-lts.After-own (calls t) (walk-at t) walk.Post Inv-loop μ-loop)
@@ -57,11 +58,11 @@ walk-requires : (t : ℕ) → walk-lts.Need-walk-requires (calls t) (walk-at t) 
 walk-requires t c κs =
     let w = inside t (c .before .before .before .before .before .before .before .before .before) in
     let l = c .before .before .before .before .before .before .before .before .before .before .before .before .loop in
-    let pre = c .before .before .before .before .before .before .before .before .before .before .before .before .before .before .before .before .before .before .before .pre .1 in
+    let pre = c .before .before .before .before .before .before .before .before .before .before .before .before .before .before .before .before .before .before .before .before .before .pre .1 in
     let own = c .before .before .before .before .before .before .before .before .before .own .given .0 in
     let room = descended-room (c .before .before .before .before .before .before .descend .ensures) (c .before .before .before .if3 .taken) in
     let long = length-part (l .t .now) (own .1 .1 .0) (own .1 .1 .1 .0) (omega arith) in (
-      omega (arith, c .before .before .before .before .before .before .before .before .before .before .before .before .before .if2 .left, c .before .before .before .before .before .before .before .before .before .before .before .before .before .before .before .before .before .before .before .pre .0),
+      omega (arith, c .before .before .before .before .before .before .before .before .before .before .before .before .before .before .before .if2 .left, c .before .before .before .before .before .before .before .before .before .before .before .before .before .before .before .before .before .before .before .before .before .pre .0),
       record {
         formed = pre .formed;
         fits = omega (arith, pre .fits, l .inv .3);
@@ -77,7 +78,7 @@ loop-again : (t : ℕ) → walk-lts.Need-loop-again (calls t) (walk-at t) walk.P
 loop-again t c =
     let w = inside t (c .before .before .before .before .before .before .before) in
     let l = c .before .before .before .before .before .before .before .before .before .before .loop in
-    let pre = c .before .before .before .before .before .before .before .before .before .before .before .before .before .before .before .before .before .pre .1 in
+    let pre = c .before .before .before .before .before .before .before .before .before .before .before .before .before .before .before .before .before .before .before .pre .1 in
     let is = c .before .before .before .before .before .before .before .before .before .read-head .ensures .1 in
     let own = c .before .before .before .before .before .before .before .own .given .0 in
     let e = c .before .before .before .before .before .before .before .own .given .1 in
@@ -113,19 +114,20 @@ pub +walk-spec : {M : Type 1} → statement M
     (λ c. c .before .before .before .before .suffixes .kept .1 .1 .1 .1 .1 .1 .1 .0)
     (λ c. ((c .before .before .before .before .suffixes .ensures .0, omega arith), body-suffixes (c .before .before .before .before .before .before .before .if1 .taken) (c .before .before .before .before .suffixes .ensures .1)))
     (λ c. ((omega arith, omega arith), body-low (c .before .if1 .left) (c .if2 .taken)))
-    (λ c. (omega arith, omega arith, c .before .before .before .before .before .before .pre .1 .buffer, refl, finding-from (λ ks e b. b .inner (c .before .if1 .left))))
+    (λ c κs. search needs)
+    (λ c. (omega arith, omega arith, c .before .before .before .before .before .before .before .before .pre .1 .buffer, refl, finding-from (λ ks e b. b .inner (c .before .before .before .if1 .left))))
     (λ c κs. search needs)
     (λ c. search needs)
-    (λ c κs. let w = inside t (c .before .before) in let pre = c .before .before .before .before .before .before .before .before .before .before .before .before .pre .1 in (pre .formed, (c .before .before .before .before .before .loop .inv .2, pre .value, pre .path, omega arith, omega arith, omega arith, c .before .before .before .before .before .before .before .if1 .left)))
+    (λ c κs. let w = inside t (c .before .before) in let pre = c .before .before .before .before .before .before .before .before .before .before .before .before .before .before .pre .1 in (pre .formed, ((c .before .before .before .before .before .loop .inv .2, pre .value, pre .path, omega arith, omega arith, omega arith, c .before .before .before .before .before .before .before .before .before .if1 .left), common-kept (c .before .before .before .before .before .before .ask-once .ensures) (c .before .before .before .before .before .loop .inv .4 .rows .kept))))
     (λ c. let w = inside t (c .before .before .before .before .before .before) in omega arith)
     (λ c. let w = inside t (c .before .before .before .before .before .before) in omega arith)
     (λ c. let w = inside t (c .before .before .before .before .before .before) in omega arith)
     (λ c. let w = inside t (c .before .before .before .before .before .before .before .before) in omega arith)
-    (λ c. let w = inside t (c .before .before .before .before .before .before .before .before) in omega (arith, c .before .before .before .before .before .before .before .before .before .before .before .before .before .before .before .before .before .before .pre .1 .value, c .before .before .before .before .before .before .before .before .before .before .before .before .before .before .before .before .before .before .pre .1 .path))
+    (λ c. let w = inside t (c .before .before .before .before .before .before .before .before) in omega (arith, c .before .before .before .before .before .before .before .before .before .before .before .before .before .before .before .before .before .before .before .before .pre .1 .value, c .before .before .before .before .before .before .before .before .before .before .before .before .before .before .before .before .before .before .before .before .pre .1 .path))
     (λ c. let w = inside t (c .before .before .before .before .before .before .before .before) in omega arith)
-    (λ c. let w = inside t (c .before .before .before .before .before .before .before .before) in omega (arith, c .before .before .before .before .before .before .before .before .before .before .before .before .before .before .before .before .before .before .pre .1 .value, c .before .before .before .before .before .before .before .before .before .before .before .before .before .before .before .before .before .before .pre .1 .path))
+    (λ c. let w = inside t (c .before .before .before .before .before .before .before .before) in omega (arith, c .before .before .before .before .before .before .before .before .before .before .before .before .before .before .before .before .before .before .before .before .pre .1 .value, c .before .before .before .before .before .before .before .before .before .before .before .before .before .before .before .before .before .before .before .before .pre .1 .path))
     (λ c. let w = inside t (c .before .before .before .before .before .before .before .before) in omega arith)
-    (λ c. let w = inside t (c .before .before .before .before .before .before .before .before .before) in omega (arith, c .before .before .before .before .before .before .before .before .before .before .before .before .before .before .before .before .before .before .before .pre .1 .fewNodes))
+    (λ c. let w = inside t (c .before .before .before .before .before .before .before .before .before) in omega (arith, c .before .before .before .before .before .before .before .before .before .before .before .before .before .before .before .before .before .before .before .before .before .pre .1 .fewNodes))
     (walk-requires t)
     (λ c. let w = inside t (c .before .before .before .before .before .before) in omega arith)
     (λ c. let w = inside t (c .before .before .before .before .before .before) in omega arith)
@@ -133,10 +135,10 @@ pub +walk-spec : {M : Type 1} → statement M
     (λ c. let w = inside t (c .before .before .before .before .before .before .before) in omega (arith, c .t .given .2))
     (loop-again t)
     (λ c. search needs)
-    (λ c. c .before .before .before .loop .inv .2 ∙ sym (c .before .before .before .before .before .before .before .before .before .before .pre .1 .buffer))
+    (λ c. c .before .before .before .loop .inv .2 ∙ sym (c .before .before .before .before .before .before .before .before .before .before .before .before .pre .1 .buffer))
     (λ c. c .before .before .before .loop .inv .3)
     (λ c. ((omega arith, omega arith), finding-end (c .before .before .before .loop .inv .4) (tries-end (c .before .before .read-head .ensures .1) (c .enum-told .given .1))))
     (λ c. search needs)
-    (λ c. c .before .before .before .loop .inv .2 ∙ sym (c .before .before .before .before .before .before .before .before .before .before .pre .1 .buffer))
+    (λ c. c .before .before .before .loop .inv .2 ∙ sym (c .before .before .before .before .before .before .before .before .before .before .before .before .pre .1 .buffer))
     (λ c. c .before .before .before .loop .inv .3)
     (λ c. ((omega arith, omega arith), finding-end (c .before .before .before .loop .inv .4) (tries-bad (c .before .before .read-head .ensures .1) (c .enum-told2 .given .1))))

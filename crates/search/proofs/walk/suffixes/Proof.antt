@@ -1,7 +1,7 @@
 -- Each turn finds the key of one suffix, or passes it (`Finding`), and what is left is shorter. Assumes nothing.
 use borrow.Author.Needs.{needs}
 use native.Mathlib.Omega.{arith}
-use Prim.Native.Nat.{ℕ, _+_, _≤_}
+use Prim.Native.Nat.{ℕ, _+_, _-_, _≤_}
 use mathlib.Core.Path.{_≡_, refl, _∙_}
 use mathlib.Core.Logic.{⊎-elim}
 use mathlib.Core.List.{List}
@@ -14,6 +14,7 @@ use Rattle.trie_read.specs.declared.suffixes.Tail.the-variants.{At}
 use Rattle.gather.specs.KeySlots.{known}
 use Rattle.search.specs.Asked.{asked}
 use Rattle.search.specs.Searches.{SuffixesFound}
+use Rattle.search.proofs.Steps.{span-kept}
 use Rattle.search.proofs.Finding.{Finding, finding-from, finding-end, suffixes-end, suffixes-bad, suffixes-put, suffixes-pass}
 use Rattle.search.proofs.walk.suffixes.Statement.{statement}
 use Rattle.search.proofs.walk.suffixes.Tie as tie
@@ -21,18 +22,19 @@ use Rattle.search.proofs.walk.suffixes.Reads as reads
 use Rattle.search.proofs.walk.suffixes.Lts as lts
 use Rattle.gather.proofs.key.put.Reads as put-reads
 use Rattle.search.proofs.step.take_key.Reads as take-key-reads
+use Rattle.search.proofs.value.span_behind.Reads as span-behind-reads
 use Rattle.trie_read.proofs.suffixes.read_suffix.Reads as read-suffix-reads
 
 abbrev Inv-loop : tie.InvT-loop
-Inv-loop body pattern low high key₀ v p answer₀ room rows t₀ m₀ key answer t m =
+Inv-loop body pattern low high key₀ v p answer₀ room rows rest t₀ m₀ key answer t m =
     (m + length t ≤ rows + length body) × (length key ≡ slotSize) × (length answer ≡ length answer₀)
     × Finding (SuffixesFound (asked pattern low high) (known v p key₀) body) (SuffixesFound (asked pattern low high) (known v p key₀) t) v p room rows 0 answer₀ key₀ answer key m 0
 
 abbrev μ-loop : tie.MeasureT-loop
-μ-loop body pattern low high key₀ v p answer₀ room rows t₀ m₀ key answer t m = length t
+μ-loop body pattern low high key₀ v p answer₀ room rows rest t₀ m₀ key answer t m = length t
 
 abbrev calls : lts.Claims
-calls = (read-suffix-reads.Asked, read-suffix-reads.Learnt, take-key-reads.Asked, take-key-reads.Learnt, put-reads.Asked, put-reads.Learnt)
+calls = (span-behind-reads.Asked, span-behind-reads.Learnt, read-suffix-reads.Asked, read-suffix-reads.Learnt, take-key-reads.Asked, take-key-reads.Learnt, put-reads.Asked, put-reads.Learnt)
 
 -- the places of the first suffix lie in what is left
 within : (c : lts.After-path calls reads.Pre reads.Post Inv-loop μ-loop)
@@ -49,7 +51,10 @@ loop-again c =
     let l = c .before .before .before .before .before .before .before .before .before .before .loop in
     let is = c .before .before .before .before .before .before .before .before .before .read-suffix .ensures .1 in
     let e = c .before .before .before .before .before .before .before .path .given .1 in
-    let taken = c .before .before .before .before .take-key .ensures in
+    let a = c .before .before .before .before .before .before .before .before .before .before .before .before .before .before .before .before .before .before .args in
+    let z : a .v - 0 ≡ a .v = omega arith in
+    let rest = span-kept (a .v) (a .p) (a .key .now) _ (rw z at (c .before .before .before .before .before .before .before .before .before .before .before .span-behind .ensures (a .pattern .now))) (l .inv .3 .rows .kept) in
+    let taken = c .before .before .before .before .take-key .ensures (a .low) (a .high) rest in
     let key = c .before .before .before .before .take-key .kept .0 ∙ l .inv .1 in
     ⊎-elim
     (λ y. (
@@ -57,7 +62,7 @@ loop-again c =
       key,
       rw (y .7) (y .4 .kept .0 ∙ l .inv .2),
       rw (y .7, y .8)
-          (suffixes-put (l .inv .3) is _ _ e taken _ (omega (arith, c .before .before .before .before .before .before .before .before .before .before .before .before .before .before .before .pre .fits)) (y .0 .taken) (rw (row-long _ key) at (y .4 .ensures))),
+          (suffixes-put (l .inv .3) is _ _ e taken _ (omega (arith, c .before .before .before .before .before .before .before .before .before .before .before .before .before .before .before .before .before .before .pre .fits)) (y .0 .taken) (rw (row-long _ key) at (y .4 .ensures))),
     ))
     (λ y. (
       omega (arith, y .2, c .t .given .2),
@@ -71,15 +76,20 @@ pub suffixes-spec : {M : Type 1} → statement M
 suffixes-spec =
     tie.close
     (tie.spec Inv-loop μ-loop
-    (λ c. (omega arith, c .before .before .before .before .pre .buffer, refl, finding-from (λ ks e h. h)))
+    (λ c. search needs)
+    (λ c. search needs)
+    (λ c. search needs)
+    (λ c. search needs)
+    (λ c κs. search needs)
+    (λ c. (omega arith, c .before .before .before .before .before .before .before .pre .buffer, refl, finding-from (λ ks e h. h)))
     (λ c κs. search needs)
     (λ c. search needs)
-    (λ c κs. let w = within (c .before .before) in let pre = c .before .before .before .before .before .before .before .before .before .before .pre in (pre .formed, (c .before .before .before .before .before .loop .inv .1, pre .value, pre .path, omega arith, omega arith, omega arith)))
+    (λ c κs. let w = within (c .before .before) in let pre = c .before .before .before .before .before .before .before .before .before .before .before .before .before .pre in (pre .formed, (c .before .before .before .before .before .loop .inv .1, pre .value, pre .path, omega arith, omega arith, omega arith)))
     (λ c. search needs)
     (λ c. search needs)
     (λ c. omega (arith, c .before .before .before .before .before .take-key .kept .0))
-    (λ c κs. rw (row-long (c .before .before .before .before .before .before .take-key .last .0) (c .before .before .before .before .before .before .take-key .kept .0 ∙ c .before .before .before .before .before .before .before .before .before .before .before .before .loop .inv .1)) (omega (arith, c .before .before .before .before .before .before .before .before .before .before .before .before .before .before .before .before .before .pre .fits)))
-    (λ c. let w = within (c .before .before .before .before .before .before .before .before .before .before .before .before) in omega (arith, c .before .before .before .before .before .before .before .before .before .before .before .before .before .before .before .before .before .before .before .before .pre .fewRows))
+    (λ c κs. rw (row-long (c .before .before .before .before .before .before .take-key .last .0) (c .before .before .before .before .before .before .take-key .kept .0 ∙ c .before .before .before .before .before .before .before .before .before .before .before .before .loop .inv .1)) (omega (arith, c .before .before .before .before .before .before .before .before .before .before .before .before .before .before .before .before .before .before .before .before .pre .fits)))
+    (λ c. let w = within (c .before .before .before .before .before .before .before .before .before .before .before .before) in omega (arith, c .before .before .before .before .before .before .before .before .before .before .before .before .before .before .before .before .before .before .before .before .before .before .before .pre .fewRows))
     (λ c. let w = within (c .before .before .before .before .before .before) in omega arith)
     (λ c. let w = within (c .before .before .before .before .before .before) in omega arith)
     (λ c. let w = within (c .before .before .before .before .before .before) in omega arith)

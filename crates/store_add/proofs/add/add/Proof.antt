@@ -3,9 +3,9 @@ use borrow.Author.Needs.{needs}
 use native.Mathlib.Omega.{arith}
 use mathlib.Core.Path.{sym, _∙_}
 use lib.ListN.{length}
+use Rattle.rows.specs.Entry.{entry}
 use Rattle.book.specs.Front.{frontOf}
 use Rattle.book.proofs.Numbers.{add-short}
-use Rattle.store_overflow.specs.Steps.{entry}
 use Rattle.store_add.proofs.Accepted.{checkable, ready}
 use Rattle.store_add.proofs.Promised.{refuses, refuses-with}
 use Rattle.store_add.proofs.add.add.Statement.{statement}
@@ -16,7 +16,7 @@ returns c =
     let a = c .before .before .before .before .before .before .before .before .args in
     let e = entry (a .path .now) (a .value) (a .reference .now) in
     let none = rw (c .before .enum-told .given .1) at (c .before .before .before .open .ensures) in
-    rw (c .answer .ensures) (refuses (a .store .now) e 3 (add-short (length (a .store .now)) (frontOf (a .store .now)) e none))
+    rw (c .plain-reply .ensures) (refuses (a .store .now) e 3 (add-short (length (a .store .now)) (frontOf (a .store .now)) e none))
 
 refusal-requires : tie.Need-refusal-requires
 refusal-requires c κs =
@@ -36,7 +36,7 @@ returns-3 c =
     let a = c .before .before .before .before .before .before .before .before .before .before .before .args in
     let o = rw (c .before .before .before .before .opened .given .1) at (c .before .before .before .before .before .before .open .ensures) in
     let z = c .before .before .refusal .ensures (length (a .store .now)) (a .value) (frontOf (a .store .now)) (o .0 .m-is) (o .0 .l-is) (o .0 .held-is) (o .1) in
-    rw (c .answer2 .ensures) (refuses-with (a .store .now) (entry (a .path .now) (a .value) (a .reference .now)) _ z (c .before .if1 .left))
+    rw (c .plain-reply2 .ensures) (refuses-with (a .store .now) (entry (a .path .now) (a .value) (a .reference .now)) _ z (c .before .if1 .left))
 
 pub add-spec : {M : Type 1} → statement M
 add-spec =

@@ -16,7 +16,7 @@ returns c =
     let s = c .before .before .before .before .before .before .before .before .before .before .before .before .before .before .before .before in
     let p = s .pre in
     let w = looked-up-entry (s .args .m) (s .args .l) (s .args .path .now) (s .args .reference .now) (s .args .value) _ _ (s .args .store .now) _ (c .before .before .before .before .before .before .before .before .before .before .before .put64 .ensures ∙ splice-whole _ _ (length-bytesOf valueSize (c .before .before .before .before .before .before .before .before .before .before .before .before .before .before .before .before .args .value))) (ended-is 201 (c .before .before .before .before .before .before .before .before .before .before .before .before .before .before .before .before .args .path .now) _ (omega (arith, c .before .before .before .before .before .before .before .before .before .before .before .before .before .before .before .before .pre .short)) (c .before .before .before .before .before .before .before .before .copy-from .ensures)) (c .before .before .has-entry .ensures) in
-    rw (c .answer .ensures) (repeats _ _ (p .accepted) _ _ _ (p .m-is) (p .l-is) w (c .before .if1 .taken) _ (p .held-is))
+    rw (c .plain-reply .ensures) (repeats _ _ (p .accepted) _ _ _ (p .m-is) (p .l-is) w (c .before .if1 .taken) _ (p .held-is))
 
 returns-2 : tie.Need-returns-2
 returns-2 c =
@@ -24,7 +24,7 @@ returns-2 c =
     let p = s .pre in
     let w = looked-up-entry (s .args .m) (s .args .l) (s .args .path .now) (s .args .reference .now) (s .args .value) _ _ (s .args .store .now) _ (c .before .before .before .before .before .before .before .before .before .before .before .before .before .before .before .before .before .before .put64 .ensures ∙ splice-whole _ _ (length-bytesOf valueSize (c .before .before .before .before .before .before .before .before .before .before .before .before .before .before .before .before .before .before .before .before .before .before .before .args .value))) (ended-is 201 (c .before .before .before .before .before .before .before .before .before .before .before .before .before .before .before .before .before .before .before .before .before .before .before .args .path .now) _ (omega (arith, c .before .before .before .before .before .before .before .before .before .before .before .before .before .before .before .before .before .before .before .before .before .before .before .pre .short)) (c .before .before .before .before .before .before .before .before .before .before .before .before .before .before .before .copy-from .ensures)) (c .before .before .before .before .before .before .before .before .before .has-entry .ensures) in
     let put = c .before .before .before .put-entry .ensures in
-    rw (c .answer2 .ensures) (puts _ _ (p .accepted) _ _ _ (p .m-is) (p .l-is) w (c .before .before .before .before .before .before .before .before .if1 .left) (p .types) (p .enough) _ _ (p .tau-is) (p .held-is) _ _ (put .placed) (put .is))
+    rw (c .plain-reply2 .ensures) (puts _ _ (p .accepted) _ _ _ (p .m-is) (p .l-is) w (c .before .before .before .before .before .before .before .before .if1 .left) (p .types) (p .enough) _ _ (p .tau-is) (p .held-is) _ _ (put .placed) (put .is))
 
 pub admit-spec : {M : Type 1} → statement M
 admit-spec =

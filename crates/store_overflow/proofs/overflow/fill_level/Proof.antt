@@ -3,7 +3,6 @@ use borrow.Author.Needs.{needs}
 use native.Mathlib.Omega.{arith}
 use native.Mathlib.Numerals.{add-one}
 use Prim.Native.Nat.{_*_}
-use Rattle.store_overflow.specs.Steps.{entry}
 use Rattle.store_overflow.proofs.LevelBytes.{fewer-short}
 use Rattle.store_overflow.proofs.Filling.{Sized, sized, before-level, short-slots, filled}
 use Rattle.store_overflow.proofs.overflow.fill_level.Statement.{statement}
@@ -11,6 +10,7 @@ use Rattle.store_overflow.proofs.overflow.fill_level.Tie as tie
 use Rattle.store_overflow.proofs.overflow.fill_level.Reads as reads
 use Rattle.store_overflow.proofs.overflow.fill_level.Lts as lts
 use Rattle.buffer.proofs.moves.clear.Reads as clear-reads
+use Rattle.rows.specs.Entry.{entry}
 use Rattle.store.proofs.front.power.Reads as power-reads
 use Rattle.store_overflow.proofs.gathering.gather_first.Reads as gather-first-reads
 use Rattle.store_overflow.proofs.merging.merge.Reads as merge-reads

@@ -21,12 +21,12 @@ part-end c =
 returns : tie.Need-returns
 returns c =
     let o = rw (c .before .before .before .before .before .before .before .before .f .given .1) at (c .before .before .before .before .before .before .before .before .before .before .open .ensures) in
-    reads-listed (o .0) (o .1) _ _ (c .before .before .before .before .before .before .if1 .taken) (c .before .before .before .before .before .trie-part .ensures) (c .before .before .list-records .ensures)
+    reads-listed (o .0) (o .1) _ _ (c .before .before .before .before .before .before .if1 .taken) (c .before .before .before .before .before .trie-part .ensures) (c .before .before .list-records .ensures .0) (c .before .before .list-records .ensures .1)
 
 returns-2 : tie.Need-returns-2
 returns-2 c =
-    let o = rw (c .before .before .f .given .1) at (c .before .before .before .before .open .ensures) in
-    reads-beyond (o .0) (o .1) _ _ (c .if1 .left)
+    let o = rw (c .before .before .before .f .given .1) at (c .before .before .before .before .before .open .ensures) in
+    rw (c .plain-reply .ensures) (reads-beyond (o .0) (o .1) _ _ (c .before .if1 .left))
 
 pub read-level-spec : {M : Type 1} → statement M
 read-level-spec =
@@ -42,6 +42,8 @@ read-level-spec =
     (λ c κs. search needs)
     (λ c. search needs)
     returns
+    (λ c κs. search needs)
     (λ c. search needs)
+    (λ c κs. search needs)
     returns-2
-    (λ c. refuses-4 (rw (c .enum-told .given .1) at (c .before .before .open .ensures))))
+    (λ c. rw (c .plain-reply2 .ensures) (refuses-4 (rw (c .before .enum-told .given .1) at (c .before .before .before .open .ensures)))))

@@ -1,6 +1,7 @@
 -- The records written are sorted. Assumes nothing.
 use borrow.Author.Needs.{needs}
-use Rattle.store_read.proofs.Sorting.{fills}
+use Rattle.store.proofs.Listing.{fills}
+use Rattle.store_read.proofs.Sorting.{walked}
 use Rattle.store_read.proofs.listing.fill.Statement.{statement}
 use Rattle.store_read.proofs.listing.fill.Tie as tie
 
@@ -12,4 +13,4 @@ fill-spec =
     (λ c κs. search needs)
     (λ c κs. search needs)
     (λ c. search needs)
-    (λ c. fills (c .before .before .before .before .before .before .before .read-trie .ensures) (c .before .before .before .before .before .before .before .before .before .before .before .pre) _ _ (c .before .before .before .before .least .ensures) (c .before .before .sort .ensures)))
+    (λ c. fills (walked (c .before .before .before .before .before .before .before .read-trie .ensures)) (c .before .before .before .before .before .before .before .before .before .before .before .pre) _ _ (c .before .before .before .before .least .ensures) (c .before .before .sort .ensures)))

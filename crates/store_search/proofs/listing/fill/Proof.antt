@@ -1,12 +1,13 @@
 -- The rows written are sorted where they stand. Assumes nothing.
 use borrow.Author.Needs.{needs}
-use Rattle.store_search.proofs.Listings.{fills}
+use Rattle.store.proofs.Listing.{fills}
+use Rattle.store_search.proofs.Listings.{walked}
 use Rattle.store_search.proofs.listing.fill.Statement.{statement}
 use Rattle.store_search.proofs.listing.fill.Tie as tie
 
 returns : tie.Need-returns
 returns c =
-    fills (c .before .before .before .before .before .before .before .search-tries .ensures) (c .before .before .before .before .before .before .before .before .before .before .before .before .pre .1 .3) _ _ (c .before .before .before .before .least .ensures) (c .before .before .sort .ensures)
+    fills (walked (c .before .before .before .before .before .before .before .search-tries .ensures)) (c .before .before .before .before .before .before .before .before .before .before .before .before .pre .1 .3) _ _ (c .before .before .before .before .least .ensures) (c .before .before .sort .ensures)
 
 pub fill-spec : {M : Type 1} → statement M
 fill-spec =

@@ -1,7 +1,8 @@
 -- 11 where there are too many, else the rows. Assumes nothing.
 use borrow.Author.Needs.{needs}
 use mathlib.Core.Path.{refl}
-use Rattle.store_search.proofs.Listings.{list-over, list-filled}
+use native.Mathlib.Omega.{arith}
+use Rattle.store.proofs.Listing.{lists-over, lists-filled}
 use Rattle.store_search.proofs.listing.list_rows.Statement.{statement}
 use Rattle.store_search.proofs.listing.list_rows.Tie as tie
 
@@ -10,7 +11,8 @@ list-rows-spec =
     tie.close
     (tie.spec
     (λ c κs. search needs)
-    (λ c. list-over (c .before .overfull .ensures) refl (c .if1 .taken))
+    (λ c κs. search needs)
+    (λ c. rw (c .plain-reply .ensures) (lists-over (omega arith) (c .before .before .overfull .ensures) refl (c .before .if1 .taken)))
     (λ c κs. search needs)
     (λ c. search needs)
-    (λ c. list-filled (c .before .before .before .before .before .overfull .ensures) (c .before .before .before .before .if1 .left) (c .before .before .fill .ensures)))
+    (λ c. lists-filled (omega arith) (c .before .before .before .before .before .overfull .ensures) (c .before .before .before .before .if1 .left) (c .before .before .fill .ensures)))

@@ -12,9 +12,10 @@ use Rattle.store_search.proofs.query.search.Lts as lts
 use Rattle.store.proofs.front.open.Reads as open-reads
 use Rattle.store_search.proofs.listing.list_rows.Reads as list-rows-reads
 use Rattle.store_search.proofs.query.query_number.Reads as query-number-reads
+use Rattle.store.proofs.reply.plain_reply.Reads as plain-reply-reads
 
 abbrev calls : lts.Claims
-calls = (open-reads.Asked, open-reads.Learnt, query-number-reads.Asked, query-number-reads.Learnt, list-rows-reads.Asked, list-rows-reads.Learnt)
+calls = (open-reads.Asked, open-reads.Learnt, query-number-reads.Asked, query-number-reads.Learnt, plain-reply-reads.Asked, plain-reply-reads.Learnt, list-rows-reads.Asked, list-rows-reads.Learnt)
 
 opened : (c : lts.After-f calls reads.Pre reads.Post) → OpenedAs (c .before .before .before .before .before .before .args .store .now) (Store (c .f .given .0 .0))
 opened c = rw (c .f .given .1) at (c .before .before .open .ensures)
@@ -36,9 +37,11 @@ search-spec =
     (λ c κs. search needs)
     (λ c. search needs)
     (λ c κs. search needs)
-    (λ c. refuses-query _ (opened (c .before .before .before) .1) (c .before .query-number .ensures) (omega (arith, c .if1 .taken)))
+    (λ c κs. search needs)
+    (λ c. rw (c .plain-reply .ensures) (refuses-query _ (opened (c .before .before .before .before) .1) (c .before .before .query-number .ensures) (omega (arith, c .before .if1 .taken))))
     list-rows-requires
     (λ c. search needs)
+    (λ c κs. search needs)
     (λ c. search needs)
     returns-2
-    (λ c. refuses-4 (rw (c .enum-told .given .1) at (c .before .before .open .ensures))))
+    (λ c. rw (c .plain-reply2 .ensures) (refuses-4 (rw (c .before .enum-told .given .1) at (c .before .before .before .open .ensures)))))

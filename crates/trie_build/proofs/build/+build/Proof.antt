@@ -200,7 +200,7 @@ run : (t : ℕ) (c : Ran t) → let l = loop t c in
     let n = node t (l .before) in
     let a = n .before .before .before .before .before .args in
     let r = n .before .before .open-node .result in
-    Run (drop (a .slots + l .loop .i * slotSize) (l .loop .s)) (a .n - l .loop .i) (columnOf (r .kind) (r .value) (r .path)) (c .run .result)
+    Run (drop (a .slots + l .loop .i * slotSize) (l .loop .s)) (a .n - l .loop .i) (columnOf (r .kind) (r .value) (r .path)) (c .run .result + 1)
 run t c =
     let l = loop t c in
     let b = l .before in
@@ -222,9 +222,9 @@ build-requires t c κs =
     let a = ready t n in
     let o = opened t n in
     let q : undecided (set t b) ≡ t = n .before .before .before .before .before .pre .0 in
-    let m = law.part-falls a o (k .d) (k .is) (k .branches) (k .low) (parted t b) (l .loop .s) (l .loop .i) (l .loop .o) (r .run .result) (now t l) h w in (
+    let m = law.part-falls a o (k .d) (k .is) (k .branches) (k .low) (parted t b) (l .loop .s) (l .loop .i) (l .loop .o) (r .run .result + 1) (now t l) h w in (
       omega arith,
-      law.part-ready a o (k .d) (k .is) (k .branches) (k .low) (parted t b) (l .loop .s) (l .loop .i) (l .loop .o) (r .run .result) (now t l) h w,
+      law.part-ready a o (k .d) (k .is) (k .branches) (k .low) (parted t b) (l .loop .s) (l .loop .i) (l .loop .o) (r .run .result + 1) (now t l) h w,
     )
 
 loop-again : (t : ℕ) → build-lts.Need-loop-again (calls t) (build-at t) build.Post Inv μ
@@ -328,7 +328,9 @@ pub +build-spec : {M : Type 1} → statement M
     (λ c. omega (arith, held t (c .before .before)))
     (λ c. search needs)
     (run-requires t)
+    (λ c. omega (arith, run t (c .before) .most))
     (build-requires t)
+    (λ c. let w = run t (c .before .before .before .before) in omega (arith, w .most))
     (λ c. let w = run t (c .before .before .before .before) in omega (arith, w .most))
     (λ c. let w = run t (c .before .before .before .before) in omega (arith, w .most, w .some))
     (loop-again t)

@@ -1,4 +1,4 @@
--- `glob::split::label_len` meets its contract. The invariant: what is passed has no `/`, so what stands up to the first `/` from here, and the bytes passed, are what stands up to it from the start.
+-- `glob::split::next_slash` meets its contract. The invariant: what is passed has no `/`, so what stands up to the first `/` from here, and the bytes passed, are what stands up to it from the start.
 -- Assumes nothing.
 use mathlib.Core.Path.{_≡_}
 use Prim.Native.Nat.{_+_, _-_, _≤_}
@@ -7,14 +7,14 @@ use lib.ListN.{length, drop}
 use borrow.Author.Needs.{needs}
 use Rattle.glob.specs.Labels.{upToSlash}
 use Rattle.glob.proofs.Cuts.{up-stop, up-more, up-end}
-use Rattle.glob.proofs.split.label_len.Statement.{statement}
-use Rattle.glob.proofs.split.label_len.Tie as tie
+use Rattle.glob.proofs.split.next_slash.Statement.{statement}
+use Rattle.glob.proofs.split.next_slash.Tie as tie
 
 abbrev Inv-loop : tie.InvT-loop
-Inv-loop s i₀ i = (i ≤ length s) × (i + length (upToSlash (drop i s)) ≡ length (upToSlash s))
+Inv-loop s from i₀ i = (i ≤ from + (length s - from)) × (i + length (upToSlash (drop i s)) ≡ from + length (upToSlash (drop from s)))
 
 abbrev μ-loop : tie.MeasureT-loop
-μ-loop s i₀ i = length s - i
+μ-loop s from i₀ i = length s - i
 
 returns : tie.Need-returns Inv-loop μ-loop
 returns c =
@@ -31,8 +31,8 @@ returns-2 c =
     let h = c .before in
     omega (arith, up-end (h .before .args .s .now) (h .loop .i) (c .loop-test .left))
 
-pub label-len-spec : {M : Type 1} → statement M
-label-len-spec =
+pub next-slash-spec : {M : Type 1} → statement M
+next-slash-spec =
     tie.close
     (tie.spec
     Inv-loop
