@@ -10,6 +10,7 @@ use lib.Dec.{ltb}
 use borrow.Author.Tests.{ltb-false, le-ltb}
 use Rattle.buffer.specs.Lists.{flat, pick}
 use Rattle.buffer.specs.Splice.{splice}
+use Rattle.buffer.proofs.Sums.{length-pick, count-most}
 use Rattle.buffer.proofs.Tests.{or-left-false, or-right-false, not-true}
 use Rattle.matcher.specs.Form.{patternForm, patternNumber}
 use Rattle.matcher.specs.declared.form.Form.{Form}
@@ -25,7 +26,6 @@ use Rattle.book.specs.Replies.{firstOf, _when_, reply, Result, result, searchNu
 use Rattle.book.specs.Searching.{matching, nodes}
 use Rattle.book.specs.Step.{step, fill, list}
 use Rattle.book.proofs.Numbers.{search-short}
-use Rattle.book.proofs.Listed.{length-pick, count-most}
 use Rattle.session.specs.Sizes.{storeSize, answerSize}
 use Rattle.session.specs.Printed.{searchCall}
 use Rattle.session.specs.Enough.{Always-Enough}
