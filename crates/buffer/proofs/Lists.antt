@@ -11,6 +11,10 @@ use lib.Dec.{eqb}
 use borrow.Author.Tests.{eqb-true, eq-eqb}
 use Rattle.buffer.specs.Lists.{all, All, nil, cons, any, pick, flat, padded, same}
 
+pub no-items : {A : Type 0} (l : List A) → length l ≡ 0 → l ≡ []
+no-items [] e = refl
+no-items (x ∷ l) e = let z : _≡_ {A = ℕ} 0 1 = cc in absurd (omega arith)
+
 pub all-head : {A : Type 0} {P : A → Type 0} {x : A} {xs : List A} → All P (x ∷ xs) → P x
 all-head (cons h a) = h
 

@@ -8,11 +8,7 @@ use lib.ListN.{length, take, drop, getD, length-drop}
 use lib.Seq.{drop-cons, drop-drop}
 use mathlib.Core.Bool.{false}
 use Rattle.buffer.specs.Lists.{none}
-pub use Rattle.buffer.proofs.Lists.{tail-part}
-
-pub no-items : {A : Type 0} (l : List A) → length l ≡ 0 → l ≡ []
-no-items [] e = refl
-no-items (x ∷ l) e = let z : _≡_ {A = ℕ} 0 1 = cc in absurd (omega arith)
+pub use Rattle.buffer.proofs.Lists.{tail-part, no-items}
 
 pub an-item : {A : Type 0} (d : A) (l : List A) → (length l ≡ 0 → ⊥) → l ≡ getD l 0 d ∷ drop 1 l
 an-item d [] f = absurd (f refl)

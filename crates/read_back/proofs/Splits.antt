@@ -6,8 +6,7 @@ use mathlib.Core.List.{List, [], _∷_, _++_, map}
 use native.Mathlib.Omega.{arith}
 use lib.ListN.{length, length-append, length-map}
 use Rattle.buffer.specs.Lists.{All, pick}
-use Rattle.buffer.proofs.Lists.{pick-append, map-append}
-use Rattle.glob.proofs.Parts.{no-items}
+use Rattle.buffer.proofs.Lists.{no-items, pick-append, map-append}
 use Rattle.rows.specs.Sizes.{nodeLimit}
 use Rattle.trie_theory.specs.Forest.{Strings, Key, Forest, none, leaf, inner, join, under, keys}
 use Rattle.trie_theory.specs.Size.{height}

@@ -10,9 +10,11 @@ use borrow.Author.Tests.{lt-ltb, le-ltb, ltb-false, not-false}
 use native.Mathlib.Nat.{mul-le-mul}
 use lib.Pow.{pow-pos}
 use Rattle.book.proofs.Front.{Within, within, too-short}
-use Rattle.store.specs.Opening.{Reads}
+use Rattle.store.specs.Opening.{Reads, Opened-Number}
+use Rattle.store.specs.declared.front.Opened.the-variants.{Store, Missing}
 use Rattle.store.specs.declared.front.Front as Code
 use Rattle.book.specs.Front.{Front, frontSize, frontOf, mLimit, lLimit, inLimits, need, capacity, noStore}
+use Rattle.book.specs.Replies.{readNumber}
 
 second : (a c d : Bool) → a || not false || c || d ≡ true
 second true c d = refl
@@ -90,3 +92,8 @@ stored n f e =
 pub opened-within : (s : List ℕ) (g : Code.Front) → Reads s g → noStore (length s) (frontOf s) ≡ false
     → (g .m ≤ mLimit) × (g .l ≤ lLimit) × (need (g .m) (g .l) ≤ length s)
 opened-within s g r h = let w = stored (length s) (frontOf s) h in rw (r .m-is, r .l-is) (w .limits .m-high, w .limits .l-high, w .enough)
+
+pub opened-number : Opened-Number
+unfolding readNumber
+opened-number s (Store f) o = rw (o .1)
+opened-number s Missing o = rw o

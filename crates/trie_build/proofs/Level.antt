@@ -16,7 +16,7 @@ use Rattle.trie_theory.specs.Level.{levelOf}
 use Rattle.trie_theory.specs.Encode.{encode, Twenty}
 use Rattle.trie_theory.proofs.TrieOf.{level-trie, figures}
 use Rattle.trie_sets.specs.Sets.{keysOf, shortPaths}
-use Rattle.trie_build.specs.Build.{entryRoom, Built}
+use Rattle.trie_build.specs.Build.{trieRoom, Built}
 use Rattle.trie_build.specs.Steps.{Ready, trieBytes}
 use Rattle.trie_sets.proofs.Sharing.{keyAt, all-keys, keysOf-suc, length-keysOf}
 use Rattle.trie_sets.proofs.Splitting.{slot-whole, value-dimension, path-dimension, path-short}
@@ -42,7 +42,7 @@ module _ (s : List ℕ) (slots n τ : ℕ) (short : shortPaths n (drop slots s) 
   key-wide k h = refl
 
   -- A LEVEL FITS its room
-  pub level-fits : length (encode (levelOf 2 τ (keysOf n (drop slots s)))) ≤ entryRoom * n
+  pub level-fits : length (encode (levelOf 2 τ (keysOf n (drop slots s)))) ≤ trieRoom * n
   level-fits =
       let l =
       level-trie 2 209 τ (keysOf n (drop slots s)) (all-keys {P = Wide 2} n (drop slots s) key-wide) (all-keys {P = λ x. total (x .strings) ≤ 209} n (drop slots s) key-total)
@@ -58,7 +58,7 @@ module _ (s : List ℕ) (slots n τ : ℕ) (short : shortPaths n (drop slots s) 
       go (suc m) h =
           rw (keysOf-suc m (drop slots s)) (root-bytes τ (slotKey (take slotSize (drop slots s))) (keysOf m (drop slotSize (drop slots s))) (rw (keysOf-suc m (drop slots s)) at (shared-two (suc m) (drop slots s) h)))
 
-  pub level-ready : (out scratch : ℕ) → 0 < n → out + entryRoom * n ≤ slots → slots + n * slotSize ≤ scratch → scratch + n * slotSize ≤ length s → entryRoom * n < 2 ^ 32
+  pub level-ready : (out scratch : ℕ) → 0 < n → out + trieRoom * n ≤ slots → slots + n * slotSize ≤ scratch → scratch + n * slotSize ≤ length s → trieRoom * n < 2 ^ 32
       → Ready s out slots scratch n τ 0 0 0
   level-ready out scratch h r a i m =
       record {

@@ -8,8 +8,8 @@ use Rattle.entries.specs.Slots.{slotSize}
 use Rattle.trie_sets.specs.Partition.{Outside}
 
 -- room for a level: as many bytes for each entry are enough (law `figures` of trie_theory)
-abbrev pub entryRoom : ℕ
-entryRoom = 245
+abbrev pub trieRoom : ℕ
+trieRoom = 245
 
 -- s′ is s with these bytes from `out` on; the stretches of the slots and of the scratch have some bytes, every other byte is as before
 pub record Built (s : List ℕ) (out slots scratch n : ℕ) (bytes s′ : List ℕ) : Type 0 where

@@ -18,7 +18,7 @@ ghost use Rattle.trie_theory.specs.Position.{shared};
 ghost use Rattle.trie_theory.specs.Level.{levelOf};
 ghost use Rattle.trie_theory.specs.Encode.{encode};
 ghost use Rattle.trie_sets.specs.Sets.{keysOf, shortPaths};
-ghost use Rattle.trie_build.specs.Build.{entryRoom, Built};
+ghost use Rattle.trie_build.specs.Build.{trieRoom, Built};
 ghost use Rattle.trie_build.specs.Steps.{Ready, trieBytes, columnOf, Run, Opened};
 
 // How many slots more, behind the first, have its byte in a column.
@@ -121,7 +121,7 @@ pub fn build_level(
     n: usize,
     tau: usize,
 ) -> usize
-    requires { ⌜ (shortPaths n (drop slots (now s)) ≡ true) × (out + entryRoom * n ≤ slots) × (slots + n * slotSize ≤ scratch) × (scratch + n * slotSize ≤ length (now s)) × (entryRoom * n < 2 ^ 32) ⌝ }
+    requires { ⌜ (shortPaths n (drop slots (now s)) ≡ true) × (out + trieRoom * n ≤ slots) × (slots + n * slotSize ≤ scratch) × (scratch + n * slotSize ≤ length (now s)) × (trieRoom * n < 2 ^ 32) ⌝ }
     ensures { λ r. ⌜ Built (now (s .entry)) out slots scratch n (encode (levelOf 2 tau (keysOf n (drop slots (now (s .entry)))))) (now (s .exit)) × (r ≡ length (encode (levelOf 2 tau (keysOf n (drop slots (now (s .entry))))))) ⌝ }
 {
     if n == 0 {
