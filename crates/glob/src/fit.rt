@@ -94,6 +94,7 @@ fn labels(pattern: &[u8], path: &[u8]) -> Trial
     if !label_fits(&pattern[1..a], &path[1..b]) {
         return Trial::Fails; // but a `**` before may take this label and try the next
     }
+    // the answer for the rest is the answer, each for its own reason
     match labels(&pattern[a..], &path[b..]) {
         Trial::Fits => Trial::Fits,
         Trial::Fails => Trial::Fails, // but a `**` before may take this label, though it fits, and try the next

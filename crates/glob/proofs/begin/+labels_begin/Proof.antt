@@ -6,7 +6,7 @@ use borrow.Author.Needs.{needs}
 use borrow.Fn.Kinds.{In}
 use borrow.Fn.PlainCycle.{Measures, is, falls, and}
 use Rattle.glob.specs.Inner.{Cut}
-use Rattle.glob.proofs.Cuts.{begun-next, cut-law}
+use Rattle.glob.proofs.Cuts.{cut-law}
 use Rattle.glob.proofs.Begins.{labels-end, labels-done, labels-more, last-cut, other-cut}
 use Rattle.glob.proofs.begin.labels_begin.Reads as labels-begin
 use Rattle.glob.proofs.begin.labels_begin.Kinds as labels-begin-kinds
@@ -62,10 +62,7 @@ labels-begin-returns-4 t c =
     rw (law, sym (c .before .before .before .before .before .is-deep .ensures) ∙ c .before .before .before .before .if3 .left, last-cut known (d .next-slash2 .result) (c .before .before .before .if4 .taken)) (c .label-begins .ensures)
 
 labels-begin-requires : (t : ℕ) → labels-begin-lts.Need-labels-begin-requires (labels-begin-calls t) (labels-begin-at t) labels-begin.Post
-labels-begin-requires t c κs =
-    let d = c .before .before .before .before .before .before .before .before .before .before in
-    let start = d .before .before .before .before .before .before in
-    (search needs, (begun-next (start .args .pattern .now) 1 (d .before .next-slash .result) (d .before .next-slash .ensures .0), begun-next (start .args .known .now) 1 (d .next-slash2 .result) (d .next-slash2 .ensures .0)))
+labels-begin-requires t c κs = let cuts = labels-begin-cuts t (c .before .before .before .before .before .before .before .before .before .before) in (search needs, (cuts .0 .begun, cuts .1 .begun))
 
 labels-begin-returns-5 : (t : ℕ) → labels-begin-lts.Need-returns-5 (labels-begin-calls t) (labels-begin-at t) labels-begin.Post
 labels-begin-returns-5 t c =

@@ -111,7 +111,7 @@ labels-returns-2 t c = rw (no-labels (c .before .before .before .before .args .p
 labels-descend-requires : (t : ℕ) → labels-lts.Need-descend-requires (labels-calls t) (labels-at t) labels.Post
 labels-descend-requires t c κs =
     let d = c .before .before .before .before in
-    (search needs, (begun-next (d .before .before .before .before .args .pattern .now) 1 (d .next-slash .result) (d .next-slash .ensures .0), d .before .before .before .before .pre .1 .1))
+    (search needs, (labels-cut t d .begun, d .before .before .before .before .pre .1 .1))
 
 labels-labels-requires : (t : ℕ) → labels-lts.Need-labels-requires (labels-calls t) (labels-at t) labels.Post
 labels-labels-requires t c κs =
@@ -119,7 +119,7 @@ labels-labels-requires t c κs =
     let d = e .before .before .before .before .before in
     let start = d .before .before .before .before in
     let less = cut-falls (start .args .pattern .now) (start .args .path .now) (d .next-slash .result) (e .next-slash2 .result) (labels-cut t d) (labels-cut2 t e) in
-    (omega (arith, start .pre .0, less), (begun-next (start .args .pattern .now) 1 (d .next-slash .result) (d .next-slash .ensures .0), begun-next (start .args .path .now) 1 (e .next-slash2 .result) (e .next-slash2 .ensures .0)))
+    (omega (arith, start .pre .0, less), (labels-cut t d .begun, labels-cut2 t e .begun))
 
 labels-returns-3 : (t : ℕ) → labels-lts.Need-returns-3 (labels-calls t) (labels-at t) labels.Post
 labels-returns-3 t c =
