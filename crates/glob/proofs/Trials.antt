@@ -3,7 +3,7 @@
 use mathlib.Core.Path.{_≡_, refl, sym, ap, subst, _∙_}
 use mathlib.Core.List.{List, [], _∷_}
 use mathlib.Core.Bool.{Bool, true, false, cond, _&&_, _||_}
-use Prim.Native.Nat.{ℕ, _<_, _≤_}
+use Prim.Native.Nat.{ℕ, _+_, _<_, _≤_}
 use native.Mathlib.Omega.{arith}
 use lib.ListN.{length, getD}
 use lib.Dec.{eqb}
@@ -11,11 +11,11 @@ use borrow.Author.Tests.{eq-eqb, ne-eqb}
 use Rattle.buffer.specs.Lists.{none}
 use Rattle.glob.specs.Bytes.{star}
 use Rattle.glob.specs.Fit.{afterSome, first, fit, fitsLabel}
-use Rattle.glob.specs.Inner.{Says, isFit}
+use Rattle.glob.specs.Inner.{Says, isFit, Alike}
 use Rattle.glob.specs.declared.fit.Trial.{Trial}
 use Rattle.glob.specs.declared.fit.Trial.the-variants.{Fits, Fails, Never}
 use Rattle.buffer.proofs.Tests.{and-false, or-false, or-left, or-left-false, or-right-false}
-use Rattle.glob.proofs.Parts.{rest, split, no-items}
+use Rattle.glob.proofs.Parts.{rest, split, back, back-all, back-step, back-back, no-items}
 
 -- where k never holds, it does not hold now
 never-now : {B : Type 0} (k : List B → Bool) (s : List B) → afterSome k s ≡ false → k s ≡ false
@@ -105,3 +105,35 @@ byte-law p f e = ap fitsLabel (split p f) ∙ fit-one (eqb star) eqb (getD p 0 0
 pub end-law : (p : List ℕ) → length p ≡ 0 → fitsLabel p ≡ none
 unfolding fit
 end-law p e = ap fitsLabel (no-items p e)
+
+-- nothing is passed over
+pub alike-none : (p s : List ℕ) → Alike p s 0
+alike-none p s =
+    record {
+      in-pattern = omega arith;
+      in-label = omega arith;
+      passes = λ t h. subst (λ (l : List ℕ). Says (fitsLabel p) l t) (back-all s) (subst (λ (q : List ℕ). Says (fitsLabel q) (back s 0) t) (back-all p) h);
+    }
+
+-- the next byte of both is the same, and no `*`
+pub alike-on : (p s : List ℕ) (i : ℕ) → i < length p → i < length s → (getD p i 0 ≡ star → ⊥) → getD p i 0 ≡ getD s i 0 → Alike p s i → Alike p s (i + 1)
+alike-on p s i l m n e a =
+    let k = fitsLabel (back p (i + 1)) in
+    let f = eqb (getD p i 0) in
+    let whole : fitsLabel (back p i) ≡ first f k = ap fitsLabel (back-step p i l) ∙ fit-one (eqb star) eqb (getD p i 0) (back p (i + 1)) (ne-eqb star (getD p i 0) (λ h. n (sym h))) in
+    record {
+      in-pattern = omega (arith, l);
+      in-label = omega (arith, m);
+      passes = λ t h. a .passes t
+          (subst (λ (g : List ℕ → Bool). Says g (back s i) t) (sym whole)
+          (subst (λ (u : List ℕ). Says (first f k) u t) (sym (back-step s i m)) (first-on k f (getD s i 0) (back s (i + 1)) t (eq-eqb _ _ e) h)));
+    }
+
+-- the first byte of both is the same, no `*`, and what stands behind begins alike with n bytes
+pub alike-first : (p s : List ℕ) (n : ℕ) (r : Trial) → (length p ≡ 0 → ⊥) → (getD p 0 0 ≡ star → ⊥) → (length s ≡ 0 → ⊥) → getD p 0 0 ≡ getD s 0 0 → Alike (rest p) (rest s) n
+    → Says (fitsLabel (back p (1 + n))) (back s (1 + n)) r → Says (fitsLabel p) s r
+alike-first p s n r f w g e a h =
+    let k = fitsLabel (rest p) in
+    let behind = subst (λ (q : List ℕ). Says (fitsLabel q) (back (rest s) n) r) (sym (back-back p 1 n)) (subst (λ (l : List ℕ). Says (fitsLabel (back p (1 + n))) l r) (sym (back-back s 1 n)) h) in
+    subst (λ (q : List ℕ → Bool). Says q s r) (sym (byte-law p f w))
+    (subst (λ (l : List ℕ). Says (first (eqb (getD p 0 0)) k) l r) (sym (split s g)) (first-on k (eqb (getD p 0 0)) (getD s 0 0) (rest s) r (eq-eqb _ _ e) (a .passes r behind)))

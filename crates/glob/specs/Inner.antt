@@ -6,7 +6,7 @@ use mathlib.Core.Bool.{Bool, true, false}
 use lib.ListN.{length, take, drop, getD}
 use Rattle.glob.specs.Bytes.{slash}
 use Rattle.glob.specs.Labels.{labelsOf}
-use Rattle.glob.specs.Fit.{afterSome}
+use Rattle.glob.specs.Fit.{afterSome, fitsLabel}
 use Rattle.glob.specs.declared.fit.Trial.{Trial}
 use Rattle.glob.specs.declared.fit.Trial.the-variants.{Fits, Fails, Never}
 
@@ -20,6 +20,12 @@ abbrev pub isFit : Trial → Bool
 isFit Fits = true
 isFit Fails = false
 isFit Never = false
+
+-- p, a label of a pattern, and s begin alike with r bytes, none a `*`: a trial of what is left of both is a trial of the whole
+pub record Alike (p s : List ℕ) (r : ℕ) : Type 0 where
+  pub in-pattern : r ≤ length p
+  pub in-label : r ≤ length s
+  pub passes : (t : Trial) → Says (fitsLabel (take (length p - r) (drop r p))) (take (length s - r) (drop r s)) t → Says (fitsLabel p) s t
 
 -- a list that begins with `/`, if it is not empty
 abbrev pub Begun : List ℕ → Type 0

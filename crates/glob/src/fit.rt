@@ -6,7 +6,7 @@ use crate::split::next_slash;
 ghost use mathlib.Core.Path.{_≡_};
 ghost use Rattle.glob.specs.Labels.{labelsOf};
 ghost use Rattle.glob.specs.Fit.{afterSome, fitsLabel, fitLabels, fitsPath};
-ghost use Rattle.glob.specs.Inner.{Says, isFit, Begun};
+ghost use Rattle.glob.specs.Inner.{Says, isFit, Alike, Begun};
 
 // `Never`: it fails now, and also once any of the first bytes (or labels) are taken away.
 pub(crate) enum Trial {
@@ -25,7 +25,27 @@ fn is_fit(r: Trial) -> bool
     }
 }
 
-// Tries a label against a label of a pattern.
+// How many bytes do a label of a pattern, before its first `*`, and a label begin alike with?
+fn alike(p: &[u8], s: &[u8]) -> usize
+    ensures { λ r. ⌜ Alike (now (p .entry)) (now (s .entry)) r ⌝ }
+{
+    let mut i = 0;
+    while i < p.len() {
+        if p[i] == STAR {
+            return i;
+        }
+        if s.len() <= i {
+            return i;
+        }
+        if p[i] != s[i] {
+            return i;
+        }
+        i += 1;
+    }
+    i
+}
+
+// Tries a label against a label of a pattern. Bytes that are alike are passed over in one turn.
 fn label(p: &[u8], s: &[u8]) -> Trial
     ensures { λ r. ⌜ Says (fitsLabel (now (p .entry))) (now (s .entry)) r ⌝ }
 {
@@ -42,7 +62,8 @@ fn label(p: &[u8], s: &[u8]) -> Trial
         return Trial::Never;
     }
     if p[0] == s[0] {
-        return label(&p[1..], &s[1..]);
+        let n = 1 + alike(&p[1..], &s[1..]);
+        return label(&p[n..], &s[n..]);
     }
     Trial::Fails
 }

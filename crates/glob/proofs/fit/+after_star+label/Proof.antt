@@ -16,8 +16,9 @@ use Rattle.glob.specs.Fit.{first, fitsLabel}
 use Rattle.glob.specs.Inner.{Says}
 use Rattle.glob.specs.declared.fit.Trial.the-variants.{Fits, Never}
 use Rattle.glob.proofs.Parts.{rest, split, back, back-all, back-step, back-end, no-items, an-item}
-use Rattle.glob.proofs.Trials.{Tried, tried-none, tried-on, now-some, never-twice, first-on, first-off, star-law, byte-law, end-law}
+use Rattle.glob.proofs.Trials.{Tried, tried-none, tried-on, now-some, never-twice, first-off, star-law, byte-law, end-law, alike-first}
 use Rattle.glob.proofs.fit.after_star.Reads as after-star
+use Rattle.glob.proofs.fit.alike.Reads as alike
 use Rattle.glob.proofs.fit.after_star.Kinds as after-star-kinds
 use Rattle.glob.proofs.fit.+after_star+label.Lts-after_star as after-star-lts
 use Rattle.glob.proofs.fit.label.Reads as label
@@ -49,7 +50,7 @@ abbrev after-star-calls : ℕ → after-star-lts.Claims
 after-star-calls t = (label-below t, label.Post)
 
 abbrev label-calls : ℕ → label-lts.Claims
-label-calls t = (after-star-below t, after-star.Post, label-below t, label.Post)
+label-calls t = (after-star-below t, after-star.Post, alike.Pre, alike.Post, label-below t, label.Post)
 
 abbrev after-star-Inv-loop : after-star-lts.InvT-loop
 after-star-Inv-loop p s i₀ i = (i ≤ length s + 1) × Tried (fitsLabel p) (length s) i (back s i) s
@@ -101,12 +102,9 @@ label-returns-4 t c = rw (byte-law (c .before .before .before .before .before .b
 
 label-returns-5 : (t : ℕ) → label-lts.Need-returns-5 (label-calls t) (label-at t) label.Post
 label-returns-5 t c =
-    let s = c .before .before .before .before .before .before .before .before .before .before .before .before .args .s .now in
-    let k = fitsLabel (rest (c .before .before .before .before .before .before .before .before .before .before .before .before .args .p .now)) in
-    let f = eqb (getD (c .before .before .before .before .before .before .before .before .before .before .before .before .args .p .now) 0 0) in
-    subst (λ (g : List ℕ → Bool). Says g s (c .label .result)) (sym (byte-law (c .before .before .before .before .before .before .before .before .before .before .before .before .args .p .now) (c .before .before .before .before .before .before .before .before .before .if1 .left) (c .before .before .before .before .before .before .before .if3 .left)))
-    (subst (λ (l : List ℕ). Says (first f k) l (c .label .result)) (sym (split s (c .before .before .before .before .before .before .if4 .left)))
-    (first-on k f (getD s 0 0) (rest s) (c .label .result) (eq-eqb _ _ (c .before .before .before .if5 .taken)) (c .label .ensures)))
+    let a = c .before .before .before .before .before .before .before .before .before .before .before .before .before .before .before .args in
+    let n = c .before .before .before .alike in
+    alike-first (a .p .now) (a .s .now) (n .result) (c .label .result) (c .before .before .before .before .before .before .before .before .before .before .before .before .if1 .left) (c .before .before .before .before .before .before .before .before .before .before .if3 .left) (c .before .before .before .before .before .before .before .before .before .if4 .left) (c .before .before .before .before .before .before .if5 .taken) (n .ensures) (c .label .ensures)
 
 label-returns-6 : (t : ℕ) → label-lts.Need-returns-6 (label-calls t) (label-at t) label.Post
 label-returns-6 t c =
@@ -149,6 +147,14 @@ pub +after-star+label-spec : {M : Type 1} → statement M
     (label-returns-3 t)
     (label-returns-4 t)
     (λ c. search needs)
+    (λ c. search needs)
+    (λ c. search needs)
+    (λ c. search needs)
+    (λ c. search needs)
+    (λ c. search needs)
+    (λ c. search needs)
+    (λ c. search needs)
+    (λ c κs. search needs)
     (λ c. search needs)
     (λ c. search needs)
     (λ c. search needs)
