@@ -1,5 +1,5 @@
--- The rule of entering a branch, and that the test `reaches` decides it: it holds exactly if some path, of any length, and some value, beginning with the bytes known,
--- match (proved in proofs/Branch.antt). Assumes nothing: these are definitions.
+-- The rule of entering a branch, and that the test `reaches` decides it: it holds exactly if some path, of any length, and some value, beginning
+-- with the bytes known, match (proved in proofs/Branch.antt). Assumes nothing: these are definitions.
 use Prim.Native.Nat.{ℕ, _^_, _<_}
 use mathlib.Core.Path.{_≡_}
 use mathlib.Core.Logic.{_↔_}

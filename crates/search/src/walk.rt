@@ -19,6 +19,7 @@ ghost use mathlib.Core.Path.{_≡_};
 ghost use mathlib.Core.Bool.{true};
 ghost use Prim.Native.Nat.{_+_, _*_, _<_, _≤_};
 ghost use lib.ListN.{length};
+ghost use Rattle.buffer.specs.Sizes.{wordLimit};
 ghost use Rattle.matcher.specs.Form.{patternForm, isFine};
 ghost use Rattle.rows.specs.Sizes.{rowSize};
 ghost use Rattle.gather.specs.KeySlots.{known};
@@ -155,7 +156,7 @@ pub fn search_trie(
     nodes: usize,
 ) -> Found
     requires { ⌜ isFine (patternForm (now pattern)) ≡ true ⌝ }
-    requires { ⌜ (room * rowSize ≤ length (now answer)) × (rows + length (now tries) < 18446744073709551616) × (nodes + length (now tries) < 18446744073709551616) ⌝ }
+    requires { ⌜ (room * rowSize ≤ length (now answer)) × (rows + length (now tries) < wordLimit) × (nodes + length (now tries) < wordLimit) ⌝ }
     ensures { λ r.
         ⌜ TrieSearched (asked (now (pattern .entry)) low high) (now (tries .entry)) room rows nodes (now (answer .entry)) (now (answer .exit)) (r .rows) (r .nodes) ⌝ }
 {
