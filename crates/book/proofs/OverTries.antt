@@ -6,7 +6,7 @@ use mathlib.Core.Logic.{_↔_}
 use mathlib.Core.Bool.{Bool, true, false, not, _&&_, _||_}
 use mathlib.Core.List.{List, [], _∷_, _++_, map}
 use native.Mathlib.Omega.{arith}
-use Rattle.trie_theory.specs.Encode.{Twenty}
+use Rattle.trie_theory.specs.Encode.{WholeReference}
 use Rattle.buffer.specs.Lists.{All, nil, cons, all, any, pick, sum, count}
 use Rattle.buffer.proofs.Tests.{and-both, bool-ext}
 use Rattle.buffer.proofs.Lists.{all-imp, all-tested, all-test, any-append, bytes-refl, strings-refl, all-append, all-every, all-pick, pick-append, all-flat-map}
@@ -79,7 +79,7 @@ trie-for es xs t f counts members r =
 pub valued : {es : List Entry} {t : Forest} → TrieFor es t → All Valued (keys [] t)
 valued r = all-imp entry-valued (r .entries)
 
-pub named : {es : List Entry} {t : Forest} → TrieFor es t → All Twenty (keys [] t)
+pub named : {es : List Entry} {t : Forest} → TrieFor es t → All WholeReference (keys [] t)
 named r = all-imp (λ x e. e .named) (r .entries)
 
 pub small-for : (b : Book) → Sound b → TrieFor (small (b .M) (b .entries)) (tries b .small)

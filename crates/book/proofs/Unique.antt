@@ -19,7 +19,7 @@ use Rattle.trie_theory.specs.Forest.{Strings, Key, Forest, none, leaf, inner}
 use Rattle.trie_theory.specs.Dimensions.{root}
 use Rattle.trie_theory.specs.Sound as Trie
 use Rattle.trie_theory.specs.Sound.{Wide}
-use Rattle.trie_theory.specs.Encode.{suffixBytes, nodeBytes, encode, Twenty, Regular}
+use Rattle.trie_theory.specs.Encode.{suffixBytes, nodeBytes, encode, WholeReference, Regular}
 use Rattle.trie_theory.proofs.SoundLaws.{root-single}
 use Rattle.trie_theory.proofs.Encode.{sound-regular, node-parts, encode-injective}
 use Rattle.rows.specs.Entry.{Entry}
@@ -58,12 +58,12 @@ record Rooted (n : ℕ) (f : Forest) : Type 0 where
   wide : length strings ≡ n
   seen : kind ≡ 0 → 0 < length body
 
-suffix-long : (n : ℕ) (t : Key) → Wide n t × Twenty t → 20 ≤ length (suffixBytes t)
+suffix-long : (n : ℕ) (t : Key) → Wide n t × WholeReference t → 20 ≤ length (suffixBytes t)
 unfolding suffixBytes
 suffix-long n t h =
     omega (arith, length-append (map length (t .strings)) (t .reference ++ flat (t .strings)), length-append (t .reference) (flat (t .strings)), h .1)
 
-suffixes-long : (n : ℕ) {ts : List Key} → 1 ≤ length ts → All (λ t. Wide n t × Twenty t) ts → 0 < length (flat (map suffixBytes ts))
+suffixes-long : (n : ℕ) {ts : List Key} → 1 ≤ length ts → All (λ t. Wide n t × WholeReference t) ts → 0 < length (flat (map suffixBytes ts))
 unfolding flat
 suffixes-long n l nil = absurd (omega arith)
 suffixes-long n l (cons {x = t} {xs = ts} h a) = omega (arith, length-append (suffixBytes t) (flat (map suffixBytes ts)), suffix-long n t h)
@@ -80,12 +80,12 @@ rooted n (leaf t ts more) s r =
       wide = r .0;
       seen = λ z. suffixes-long n (s .1) (r .1);
     })
-rooted n (inner d t kids more) s r =
+rooted n (inner d t children more) s r =
     inr (record {
       kind = suc d;
       strings = t;
-      body = encode kids;
-      bytes = ap (λ (f : Forest). nodeBytes (suc d) t (encode kids) ++ encode f) (root-single n t more (s .0)) ∙ append-nil (nodeBytes (suc d) t (encode kids));
+      body = encode children;
+      bytes = ap (λ (f : Forest). nodeBytes (suc d) t (encode children) ++ encode f) (root-single n t more (s .0)) ∙ append-nil (nodeBytes (suc d) t (encode children));
       wide = r .0;
       seen = λ z. absurd (omega arith);
     })

@@ -83,23 +83,23 @@ pub low-keys : (k : Strings) (f : Forest) → height f ≤ 0 → pick hasSlot (k
 unfolding height pick keys
 low-keys k none h = refl
 low-keys k (leaf s ts more) h = absurd (omega arith)
-low-keys k (inner d s kids more) h = absurd (omega arith)
+low-keys k (inner d s children more) h = absurd (omega arith)
 
 leaf-keys : (k s : Strings) (ts : List Key) (more : Forest) → pick hasSlot (keys k (leaf s ts more)) ≡ pick hasSlot (map (under (join k s)) ts) ++ pick hasSlot (keys k more)
 unfolding keys
 leaf-keys k s ts more = pick-append hasSlot (map (under (join k s)) ts) (keys k more)
 
-inner-keys : (k s : Strings) (d : ℕ) (kids more : Forest) → pick hasSlot (keys k (inner d s kids more)) ≡ pick hasSlot (keys (join k s) kids) ++ pick hasSlot (keys k more)
+inner-keys : (k s : Strings) (d : ℕ) (children more : Forest) → pick hasSlot (keys k (inner d s children more)) ≡ pick hasSlot (keys (join k s) children) ++ pick hasSlot (keys k more)
 unfolding keys
-inner-keys k s d kids more = pick-append hasSlot (keys (join k s) kids) (keys k more)
+inner-keys k s d children more = pick-append hasSlot (keys (join k s) children) (keys k more)
 
 pub leaf-high : (depth : ℕ) (s : Strings) (ts : List Key) (more : Forest) → height (leaf s ts more) ≤ depth → height more ≤ depth
 unfolding height
 leaf-high depth s ts more h = omega arith
 
-pub inner-high : (depth d : ℕ) (s : Strings) (kids more : Forest) → height (inner d s kids more) ≤ depth → (height kids ≤ depth - 1) × (height more ≤ depth)
+pub inner-high : (depth d : ℕ) (s : Strings) (children more : Forest) → height (inner d s children more) ≤ depth → (height children ≤ depth - 1) × (height more ≤ depth)
 unfolding height
-inner-high depth d s kids more h = (omega arith, omega arith)
+inner-high depth d s children more h = (omega arith, omega arith)
 
 module _ {depth : ℕ} {k : Strings} {t : List ℕ} {r : Head} (is : (f : Forest) → Regular 2 f → t ≡ encode f → r ≡ headOf f) where
   pub trie-end : r ≡ Head.End → (ks : List Key) → TrieKeys depth k t ks → ks ≡ []
@@ -126,13 +126,13 @@ module _ {depth : ℕ} {k : Strings} {t : List ℕ} {r : Head} (is : (f : Forest
       (λ (z : kind ≡ 0 → ⊥).
       let w = inner-view kind path body next t (s .tries) (s .regular) (s .bytes) q z in
       let n = strings-are (w .places) (w .wide) in
-      let h = inner-high depth (w .dimension) (w .strings) (w .kids) (w .more) (rw (w .is) at (s .high)) in
+      let h = inner-high depth (w .dimension) (w .strings) (w .children) (w .more) (rw (w .is) at (s .high)) in
       record {
-        first = pick hasSlot (keys (join k (w .strings)) (w .kids));
+        first = pick hasSlot (keys (join k (w .strings)) (w .children));
         second = pick hasSlot (keys k (w .more));
-        one = record { leaf = λ y. absurd (z y); inner = λ y. rw n record { tries = w .kids; regular = w .lower; high = h .0; bytes = w .places .body-is; is = refl } };
+        one = record { leaf = λ y. absurd (z y); inner = λ y. rw n record { tries = w .children; regular = w .lower; high = h .0; bytes = w .places .body-is; is = refl } };
         other = record { tries = w .more; regular = w .shaped; high = h .1; bytes = w .places .rest-is; is = refl };
-        is = s .is ∙ ap (λ (f : Forest). pick hasSlot (keys k f)) (w .is) ∙ inner-keys k (w .strings) (w .dimension) (w .kids) (w .more);
+        is = s .is ∙ ap (λ (f : Forest). pick hasSlot (keys k f)) (w .is) ∙ inner-keys k (w .strings) (w .dimension) (w .children) (w .more);
       })
       (same? kind 0)
 
@@ -166,7 +166,7 @@ long-suffixes k (t ∷ ts) h = rw (long-under k t h) (long-suffixes k ts h)
 long-keys : (k : Strings) (f : Forest) → Long k → pick hasSlot (keys k f) ≡ []
 long-keys k none h = none-keys k none refl
 long-keys k (leaf s ts more) h = leaf-keys k s ts more ∙ ap₂ _++_ (long-suffixes (join k s) ts (long-join k s h)) (long-keys k more h)
-long-keys k (inner d s kids more) h = inner-keys k s d kids more ∙ ap₂ _++_ (long-keys (join k s) kids (long-join k s h)) (long-keys k more h)
+long-keys k (inner d s children more) h = inner-keys k s d children more ∙ ap₂ _++_ (long-keys (join k s) children (long-join k s h)) (long-keys k more h)
 
 -- no key behind it has a slot
 pub long-body : {kind depth : ℕ} {k : Strings} {t : List ℕ} → Long k → (ks : List Key) → BodyKeys kind depth k t ks → ks ≡ []
@@ -198,4 +198,4 @@ pub keys-root : (f : Forest) → Regular 2 f → keys ([] ∷ [] ∷ []) f ≡ k
 unfolding keys Regular join
 keys-root none h = refl
 keys-root (leaf s ts more) h = ap₂ _++_ (ap (λ (l : Strings). map (under l) ts) (blank s (h .0))) (keys-root more (h .2))
-keys-root (inner d s kids more) h = ap₂ _++_ (ap (λ (l : Strings). keys l kids) (blank s (h .0))) (keys-root more (h .2))
+keys-root (inner d s children more) h = ap₂ _++_ (ap (λ (l : Strings). keys l children) (blank s (h .0))) (keys-root more (h .2))

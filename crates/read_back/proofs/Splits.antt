@@ -56,7 +56,7 @@ low-below : (n : ℕ) (way : List ℕ) (k : Strings) (f : Forest) → height f �
 unfolding height recordsBelow
 low-below n way k none h = refl
 low-below n way k (leaf s ts more) h = absurd (omega arith)
-low-below n way k (inner d s kids more) h = absurd (omega arith)
+low-below n way k (inner d s children more) h = absurd (omega arith)
 
 leaf-below : (n kind : ℕ) (way : List ℕ) (k s : Strings) (ts : List Key) (more : Forest) → kind ≡ 0
     → recordsBelow n way k (leaf s ts more)
@@ -64,19 +64,19 @@ leaf-below : (n kind : ℕ) (way : List ℕ) (k s : Strings) (ts : List Key) (mo
 unfolding recordsBelow
 leaf-below n kind way k s ts more e = rw e
 
-inner-below : (n kind : ℕ) (way : List ℕ) (k s : Strings) (d : ℕ) (kids more : Forest) → kind ≡ suc d
-    → recordsBelow n way k (inner d s kids more) ≡ recordsBelow (n + 1) (way ++ nodeOf (join k s) kind) (join k s) kids ++ recordsBelow n way k more
+inner-below : (n kind : ℕ) (way : List ℕ) (k s : Strings) (d : ℕ) (children more : Forest) → kind ≡ suc d
+    → recordsBelow n way k (inner d s children more) ≡ recordsBelow (n + 1) (way ++ nodeOf (join k s) kind) (join k s) children ++ recordsBelow n way k more
 unfolding recordsBelow
-inner-below n kind way k s d kids more e = rw e
+inner-below n kind way k s d children more e = rw e
 
 leaf-high : (n : ℕ) (s : Strings) (ts : List Key) (more : Forest) → height (leaf s ts more) + n ≤ nodeLimit → height more + n ≤ nodeLimit
 unfolding height
 leaf-high n s ts more h = omega arith
 
-inner-high : (n d : ℕ) (s : Strings) (kids more : Forest) → height (inner d s kids more) + n ≤ nodeLimit
-    → (height kids + (n + 1) ≤ nodeLimit) × (height more + n ≤ nodeLimit)
+inner-high : (n d : ℕ) (s : Strings) (children more : Forest) → height (inner d s children more) + n ≤ nodeLimit
+    → (height children + (n + 1) ≤ nodeLimit) × (height more + n ≤ nodeLimit)
 unfolding height
-inner-high n d s kids more h = (omega arith, omega arith)
+inner-high n d s children more h = (omega arith, omega arith)
 
 module _ {n : ℕ} {way : List ℕ} {k : Strings} {t : List ℕ} {r : Head} (is : (f : Forest) → Regular 2 f → t ≡ encode f → r ≡ headOf f) where
   pub below-end : r ≡ Head.End → (rs : List (List ℕ)) → TrieRecords n way k t rs → rs ≡ []
@@ -108,16 +108,16 @@ module _ {n : ℕ} {way : List ℕ} {k : Strings} {t : List ℕ} {r : Head} (is 
       (λ (z : kind ≡ 0 → ⊥).
       let w = inner-view kind path body next t (s .tries) (s .regular) (s .bytes) q z in
       let m = strings-are (w .places) (w .wide) in
-      let h = inner-high n (w .dimension) (w .strings) (w .kids) (w .more) (rw (w .is) at (s .high)) in
+      let h = inner-high n (w .dimension) (w .strings) (w .children) (w .more) (rw (w .is) at (s .high)) in
       record {
-        first = recordsBelow (n + 1) (way ++ nodeOf (join k (w .strings)) kind) (join k (w .strings)) (w .kids);
+        first = recordsBelow (n + 1) (way ++ nodeOf (join k (w .strings)) kind) (join k (w .strings)) (w .children);
         second = recordsBelow n way k (w .more);
         one = record {
           leaf = λ y. absurd (z y);
-          inner = λ y. rw m record { tries = w .kids; regular = w .lower; high = h .0; bytes = w .places .body-is; is = refl };
+          inner = λ y. rw m record { tries = w .children; regular = w .lower; high = h .0; bytes = w .places .body-is; is = refl };
         };
         other = record { tries = w .more; regular = w .shaped; high = h .1; bytes = w .places .rest-is; is = refl };
-        is = s .is ∙ ap (recordsBelow n way k) (w .is) ∙ inner-below n kind way k (w .strings) (w .dimension) (w .kids) (w .more) (w .branches);
+        is = s .is ∙ ap (recordsBelow n way k) (w .is) ∙ inner-below n kind way k (w .strings) (w .dimension) (w .children) (w .more) (w .branches);
       })
       (same? kind 0)
 
@@ -139,15 +139,15 @@ length-below n way k (leaf s ts more) =
       length-append own (pick hasSlot (keys k more)),
       length-below n way k more,
     )
-length-below n way k (inner d s kids more) =
+length-below n way k (inner d s children more) =
     let w = way ++ nodeOf (join k s) (suc d) in
-    let p = ap length (pick-append hasSlot (keys (join k s) kids) (keys k more)) in
+    let p = ap length (pick-append hasSlot (keys (join k s) children) (keys k more)) in
     omega (
       arith,
       p,
-      length-append (recordsBelow (n + 1) w (join k s) kids) (recordsBelow n way k more),
-      length-append (pick hasSlot (keys (join k s) kids)) (pick hasSlot (keys k more)),
-      length-below (n + 1) w (join k s) kids,
+      length-append (recordsBelow (n + 1) w (join k s) children) (recordsBelow n way k more),
+      length-append (pick hasSlot (keys (join k s) children)) (pick hasSlot (keys k more)),
+      length-below (n + 1) w (join k s) children,
       length-below n way k more,
     )
 

@@ -49,8 +49,8 @@ others n above b none s a = nil
 others n above b (leaf t ts more) s a =
     all-append (all-imp (λ x h e. all-head a (e ∙ sym (branching-prefix above t (x .strings) (s .0 .starts) h))) (from-under t ts))
     (others n above b more (s .3) (all-tail a))
-others n above b (inner d t kids more) s a =
-    all-append {xs = keys t kids} (all-imp (λ x h e. all-head a (e ∙ sym (branching-prefix above t (x .strings) (s .0 .starts) h))) (all-keys t kids))
+others n above b (inner d t children more) s a =
+    all-append {xs = keys t children} (all-imp (λ x h e. all-head a (e ∙ sym (branching-prefix above t (x .strings) (s .0 .starts) h))) (all-keys t children))
     (others n above b more (s .3) (all-tail a))
 
 -- so they do not go on with the strings s
@@ -89,20 +89,20 @@ module _ (n : ℕ) (way : List ℕ) (k s : Strings) (more : Forest) where
       rw (prefixes-allBegin (join k s) (x .strings) h)
       (way-step n way (join k s) (length ts) 0 [] x ∙ way-end (n + 1) (way ++ nodeOf (join k s) 0) x)
 
-  inner-on : (d : ℕ) (kids : Forest) (x : Key) → From (join k s) x
-      → wayRecord n way (walk k (inner d s kids more) x) x ≡ wayRecord (n + 1) (way ++ nodeOf (join k s) (suc d)) (walk (join k s) kids x) x
+  inner-on : (d : ℕ) (children : Forest) (x : Key) → From (join k s) x
+      → wayRecord n way (walk k (inner d s children more) x) x ≡ wayRecord (n + 1) (way ++ nodeOf (join k s) (suc d)) (walk (join k s) children x) x
   unfolding walk
-  inner-on d kids x h =
-      rw (prefixes-allBegin (join k s) (x .strings) h) (way-step n way (join k s) (length (keys (join k s) kids)) (suc d) (walk (join k s) kids x) x)
+  inner-on d children x h =
+      rw (prefixes-allBegin (join k s) (x .strings) h) (way-step n way (join k s) (length (keys (join k s) children)) (suc d) (walk (join k s) children x) x)
 
   leaf-past : (ts : List Key) (x : Key) → allBegin (join k s) (x .strings) ≡ false → wayRecord n way (walk k (leaf s ts more) x) x ≡ wayRecord n way (walk k more x) x
   unfolding walk
   leaf-past ts x h = rw h
 
-  inner-past : (d : ℕ) (kids : Forest) (x : Key) → allBegin (join k s) (x .strings) ≡ false
-      → wayRecord n way (walk k (inner d s kids more) x) x ≡ wayRecord n way (walk k more x) x
+  inner-past : (d : ℕ) (children : Forest) (x : Key) → allBegin (join k s) (x .strings) ≡ false
+      → wayRecord n way (walk k (inner d s children more) x) x ≡ wayRecord n way (walk k more x) x
   unfolding walk
-  inner-past d kids x h = rw h
+  inner-past d children x h = rw h
 
 -- two lists of keys that have a slot
 two-picked : (g : Key → List ℕ) (a b : Key → List ℕ) (xs ys : List Key) → All (λ x. g x ≡ a x) xs → All (λ x. g x ≡ b x) ys
@@ -122,13 +122,13 @@ records-walk above n way k (leaf t ts more) w s =
     ∙ two-picked (λ x. wayRecord n way (walk k (leaf t ts more) x) x) (keyRecord (n + 1) (way ++ nodeOf (join k t) 0)) (λ x. wayRecord n way (walk k more x) x) xs (keys k more)
     (all-imp (leaf-on n way k t more ts) (from-under (join k t) ts))
     (all-imp (leaf-past n way k t more ts) (not-on 2 above k t more w (s .0) (s .3)))
-records-walk above n way k (inner d t kids more) w s =
+records-walk above n way k (inner d t children more) w s =
     let l : length (join k t) ≡ 2 = length-join k t (w ∙ sym (s .0 .wide)) ∙ w in
-    ap₂ _++_ (records-walk (below d) (n + 1) (way ++ nodeOf (join k t) (suc d)) (join k t) kids l (s .2)) (records-walk above n way k more w (s .3))
-    ∙ two-picked (λ x. wayRecord n way (walk k (inner d t kids more) x) x) (λ x. wayRecord (n + 1) (way ++ nodeOf (join k t) (suc d)) (walk (join k t) kids x) x)
-    (λ x. wayRecord n way (walk k more x) x) (keys (join k t) kids) (keys k more)
-    (all-imp (inner-on n way k t more d kids) (all-keys (join k t) kids))
-    (all-imp (inner-past n way k t more d kids) (not-on 2 above k t more w (s .0) (s .3)))
+    ap₂ _++_ (records-walk (below d) (n + 1) (way ++ nodeOf (join k t) (suc d)) (join k t) children l (s .2)) (records-walk above n way k more w (s .3))
+    ∙ two-picked (λ x. wayRecord n way (walk k (inner d t children more) x) x) (λ x. wayRecord (n + 1) (way ++ nodeOf (join k t) (suc d)) (walk (join k t) children x) x)
+    (λ x. wayRecord n way (walk k more x) x) (keys (join k t) children) (keys k more)
+    (all-imp (inner-on n way k t more d children) (all-keys (join k t) children))
+    (all-imp (inner-past n way k t more d children) (not-on 2 above k t more w (s .0) (s .3)))
 
 -- ---- the root: nothing is known
 
@@ -137,5 +137,5 @@ unfolding walk Regular join
 walk-root none x h = refl
 walk-root (leaf s ts more) x h =
     ap₂ (λ (l : Strings) (r : List Step). cond (allBegin l (x .strings)) (stepAt l (length ts) 0 ∷ []) r) (blank s (h .0)) (walk-root more x (h .2))
-walk-root (inner d s kids more) x h =
-    ap₂ (λ (l : Strings) (r : List Step). cond (allBegin l (x .strings)) (stepAt l (length (keys l kids)) (suc d) ∷ walk l kids x) r) (blank s (h .0)) (walk-root more x (h .2))
+walk-root (inner d s children more) x h =
+    ap₂ (λ (l : Strings) (r : List Step). cond (allBegin l (x .strings)) (stepAt l (length (keys l children)) (suc d) ∷ walk l children x) r) (blank s (h .0)) (walk-root more x (h .2))

@@ -35,8 +35,8 @@ unfoldable pub recordsBelow : ℕ → List ℕ → Strings → Forest → List (
 recordsBelow n way k none = []
 recordsBelow n way k (leaf s ts more) =
     map (keyRecord (n + 1) (way ++ nodeOf (join k s) 0)) (pick hasSlot (map (under (join k s)) ts)) ++ recordsBelow n way k more
-recordsBelow n way k (inner d s kids more) =
-    recordsBelow (n + 1) (way ++ nodeOf (join k s) (suc d)) (join k s) kids ++ recordsBelow n way k more
+recordsBelow n way k (inner d s children more) =
+    recordsBelow (n + 1) (way ++ nodeOf (join k s) (suc d)) (join k s) children ++ recordsBelow n way k more
 
 -- the records of suffixes in the bytes t, of tries, and of the body of a node
 pub record SuffixRecords (n : ℕ) (way : List ℕ) (k : Strings) (t : List ℕ) (rs : List (List ℕ)) : Type 0 where

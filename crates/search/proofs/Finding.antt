@@ -41,7 +41,7 @@ pub use Rattle.gather.proofs.Filling.{length-row}
 use Rattle.gather.proofs.Putting.{put-none, put-then, put-one}
 use Rattle.gather.proofs.Splitting.{pick-one, pick-not, seen-key, leaf-high, inner-high}
 use Rattle.search.specs.Steps.{rootKind, over, takes, keyRow, Descended, Taken}
-use Rattle.search.specs.Searches.{Searched, SuffixesFound, TriesFound, BodyFound, Short, Roomy}
+use Rattle.search.specs.Searches.{Searched, SuffixesFound, TriesFound, BodyFound, Short, NodesFit}
 
 -- ---- a loop
 
@@ -221,7 +221,7 @@ module _ (reach : Strings → Bool) (m : Key → Bool) (above : Above) (k : Stri
   unfolding height found nodesEntered
   found-low none h = (refl, refl)
   found-low (leaf s ts more) h = absurd (omega arith)
-  found-low (inner d s kids more) h = absurd (omega arith)
+  found-low (inner d s children more) h = absurd (omega arith)
 
   module _ (s : Strings) (more : Forest) where
     leaf-in : (ts : List Key) → enters reach above k s ≡ true
@@ -236,25 +236,25 @@ module _ (reach : Strings → Bool) (m : Key → Bool) (above : Above) (k : Stri
     unfolding found nodesEntered
     leaf-out ts e = (rw e, rw e (omega arith))
 
-    inner-in : (d : ℕ) (kids : Forest) → enters reach above k s ≡ true
-        → (found reach m above k (inner d s kids more) ≡ found reach m (below d) (join k s) kids ++ found reach m above k more)
-        × (nodesEntered reach above k (inner d s kids more) ≡ 1 + nodesEntered reach (below d) (join k s) kids + nodesEntered reach above k more)
+    inner-in : (d : ℕ) (children : Forest) → enters reach above k s ≡ true
+        → (found reach m above k (inner d s children more) ≡ found reach m (below d) (join k s) children ++ found reach m above k more)
+        × (nodesEntered reach above k (inner d s children more) ≡ 1 + nodesEntered reach (below d) (join k s) children + nodesEntered reach above k more)
     unfolding found nodesEntered
-    inner-in d kids e = (rw e, rw e)
+    inner-in d children e = (rw e, rw e)
 
-    inner-out : (d : ℕ) (kids : Forest) → enters reach above k s ≡ false
-        → (found reach m above k (inner d s kids more) ≡ found reach m above k more)
-        × (nodesEntered reach above k (inner d s kids more) ≡ nodesEntered reach above k more)
+    inner-out : (d : ℕ) (children : Forest) → enters reach above k s ≡ false
+        → (found reach m above k (inner d s children more) ≡ found reach m above k more)
+        × (nodesEntered reach above k (inner d s children more) ≡ nodesEntered reach above k more)
     unfolding found nodesEntered
-    inner-out d kids e = (rw e, rw e (omega arith))
+    inner-out d children e = (rw e, rw e (omega arith))
 
-leaf-roomy : (k s : Strings) (ts : List Key) (more : Forest) → Roomy k (leaf s ts more) → Short (join k s) × Roomy k more
-unfolding Roomy
+leaf-roomy : (k s : Strings) (ts : List Key) (more : Forest) → NodesFit k (leaf s ts more) → Short (join k s) × NodesFit k more
+unfolding NodesFit
 leaf-roomy k s ts more r = r
 
-inner-roomy : (k s : Strings) (d : ℕ) (kids more : Forest) → Roomy k (inner d s kids more) → Short (join k s) × Roomy (join k s) kids × Roomy k more
-unfolding Roomy
-inner-roomy k s d kids more r = r
+inner-roomy : (k s : Strings) (d : ℕ) (children more : Forest) → NodesFit k (inner d s children more) → Short (join k s) × NodesFit (join k s) children × NodesFit k more
+unfolding NodesFit
+inner-roomy k s d children more r = r
 
 -- a node's kind is a byte
 over-inner : (kind d : ℕ) → kind ≡ suc d → kind < rootKind → over kind ≡ below d
@@ -285,9 +285,9 @@ module _ {q : Query} {above : Above} {depth : ℕ} {k : Strings} {t : List ℕ} 
         let h = sym z ∙ is (s .tries) (s .regular) (s .bytes) in
         ⊎-elim
         (λ (y : kind ≡ 0). let w = leaf-view kind path start next t (s .tries) (s .regular) (s .bytes) h y in
-        rw (strings-are (w .places) (w .wide)) (leaf-roomy k (w .strings) (w .suffixes) (w .more) (rw (w .is) at (s .roomy)) .0))
+        rw (strings-are (w .places) (w .wide)) (leaf-roomy k (w .strings) (w .suffixes) (w .more) (rw (w .is) at (s .nodes-fit)) .0))
         (λ (y : kind ≡ 0 → ⊥). let w = inner-view kind path start next t (s .tries) (s .regular) (s .bytes) h y in
-        rw (strings-are (w .places) (w .wide)) (inner-roomy k (w .strings) (w .dimension) (w .kids) (w .more) (rw (w .is) at (s .roomy)) .0))
+        rw (strings-are (w .places) (w .wide)) (inner-roomy k (w .strings) (w .dimension) (w .children) (w .more) (rw (w .is) at (s .nodes-fit)) .0))
         (same? kind 0)
 
     pub tries-in : kind < rootKind → enters (reaches q) above k (part 7 path t ∷ part path start t ∷ []) ≡ true → (ks : List Key) (e : ℕ) → TriesFound q above depth k t ks e
@@ -313,7 +313,7 @@ module _ {q : Query} {above : Above} {depth : ℕ} {k : Strings} {t : List ℕ} 
             tries = w .more;
             regular = w .shaped;
             high = leaf-high depth (w .strings) (w .suffixes) (w .more) (rw (w .is) at (s .high));
-            roomy = leaf-roomy k (w .strings) (w .suffixes) (w .more) (rw (w .is) at (s .roomy)) .1;
+            nodes-fit = leaf-roomy k (w .strings) (w .suffixes) (w .more) (rw (w .is) at (s .nodes-fit)) .1;
             bytes = w .places .rest-is;
             is = refl;
             entered = refl;
@@ -324,24 +324,24 @@ module _ {q : Query} {above : Above} {depth : ℕ} {k : Strings} {t : List ℕ} 
         (λ (o : kind ≡ 0 → ⊥).
         let w = inner-view kind path start next t (s .tries) (s .regular) (s .bytes) h o in
         let n = strings-are (w .places) (w .wide) in
-        let f = inner-in (reaches q) (takes q) above k (w .strings) (w .more) (w .dimension) (w .kids) (rw n at y) in
-        let i = inner-high depth (w .dimension) (w .strings) (w .kids) (w .more) (rw (w .is) at (s .high)) in
-        let m = inner-roomy k (w .strings) (w .dimension) (w .kids) (w .more) (rw (w .is) at (s .roomy)) in
+        let f = inner-in (reaches q) (takes q) above k (w .strings) (w .more) (w .dimension) (w .children) (rw n at y) in
+        let i = inner-high depth (w .dimension) (w .strings) (w .children) (w .more) (rw (w .is) at (s .high)) in
+        let m = inner-roomy k (w .strings) (w .dimension) (w .children) (w .more) (rw (w .is) at (s .nodes-fit)) in
         let a : over kind ≡ below (w .dimension) = over-inner kind (w .dimension) (w .branches) byte in
         record {
-          first = found (reaches q) (takes q) (below (w .dimension)) (join k (w .strings)) (w .kids);
+          first = found (reaches q) (takes q) (below (w .dimension)) (join k (w .strings)) (w .children);
           second = found (reaches q) (takes q) above k (w .more);
-          before = 1 + nodesEntered (reaches q) (below (w .dimension)) (join k (w .strings)) (w .kids);
+          before = 1 + nodesEntered (reaches q) (below (w .dimension)) (join k (w .strings)) (w .children);
           behind = nodesEntered (reaches q) above k (w .more);
           one = record {
-            below = nodesEntered (reaches q) (below (w .dimension)) (join k (w .strings)) (w .kids);
+            below = nodesEntered (reaches q) (below (w .dimension)) (join k (w .strings)) (w .children);
             has = record {
               leaf = λ x. absurd (o x);
-              inner = λ x. rw (n, a) record { tries = w .kids; regular = w .lower; high = i .0; roomy = m .1; bytes = w .places .body-is; is = refl; entered = refl };
+              inner = λ x. rw (n, a) record { tries = w .children; regular = w .lower; high = i .0; nodes-fit = m .1; bytes = w .places .body-is; is = refl; entered = refl };
             };
             is = refl;
           };
-          other = record { tries = w .more; regular = w .shaped; high = i .1; roomy = m .2; bytes = w .places .rest-is; is = refl; entered = refl };
+          other = record { tries = w .more; regular = w .shaped; high = i .1; nodes-fit = m .2; bytes = w .places .rest-is; is = refl; entered = refl };
           is = s .is ∙ ap (found (reaches q) (takes q) above k) (w .is) ∙ f .0;
           sum = s .entered ∙ ap (nodesEntered (reaches q) above k) (w .is) ∙ f .1;
         })
@@ -359,19 +359,19 @@ module _ {q : Query} {above : Above} {depth : ℕ} {k : Strings} {t : List ℕ} 
           tries = w .more;
           regular = w .shaped;
           high = leaf-high depth (w .strings) (w .suffixes) (w .more) (rw (w .is) at (s .high));
-          roomy = leaf-roomy k (w .strings) (w .suffixes) (w .more) (rw (w .is) at (s .roomy)) .1;
+          nodes-fit = leaf-roomy k (w .strings) (w .suffixes) (w .more) (rw (w .is) at (s .nodes-fit)) .1;
           bytes = w .places .rest-is;
           is = s .is ∙ ap (found (reaches q) (takes q) above k) (w .is) ∙ f .0;
           entered = s .entered ∙ ap (nodesEntered (reaches q) above k) (w .is) ∙ f .1;
         })
         (λ (o : kind ≡ 0 → ⊥).
         let w = inner-view kind path start next t (s .tries) (s .regular) (s .bytes) h o in
-        let f = inner-out (reaches q) (takes q) above k (w .strings) (w .more) (w .dimension) (w .kids) (rw (strings-are (w .places) (w .wide)) at y) in
+        let f = inner-out (reaches q) (takes q) above k (w .strings) (w .more) (w .dimension) (w .children) (rw (strings-are (w .places) (w .wide)) at y) in
         record {
           tries = w .more;
           regular = w .shaped;
-          high = inner-high depth (w .dimension) (w .strings) (w .kids) (w .more) (rw (w .is) at (s .high)) .1;
-          roomy = inner-roomy k (w .strings) (w .dimension) (w .kids) (w .more) (rw (w .is) at (s .roomy)) .2;
+          high = inner-high depth (w .dimension) (w .strings) (w .children) (w .more) (rw (w .is) at (s .high)) .1;
+          nodes-fit = inner-roomy k (w .strings) (w .dimension) (w .children) (w .more) (rw (w .is) at (s .nodes-fit)) .2;
           bytes = w .places .rest-is;
           is = s .is ∙ ap (found (reaches q) (takes q) above k) (w .is) ∙ f .0;
           entered = s .entered ∙ ap (nodesEntered (reaches q) above k) (w .is) ∙ f .1;

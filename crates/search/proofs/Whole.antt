@@ -21,7 +21,7 @@ pub use Rattle.gather.proofs.Filling.{entry-row}
 use Rattle.gather.proofs.Gathering.{known-nothing}
 use Rattle.gather.proofs.Splitting.{join-longer, blank, keys-root}
 use Rattle.search.specs.Steps.{rootKind, over, takes}
-use Rattle.search.specs.Searches.{Searched, TrieSearched, TrieFound, BodyFound, Short, Roomy}
+use Rattle.search.specs.Searches.{Searched, TrieSearched, TrieFound, BodyFound, Short, NodesFit}
 
 -- ---- room
 
@@ -41,21 +41,21 @@ short-tries : (n : ℕ) (above : Above) (k : Strings) (f : Forest) → Sound n a
 unfolding Sound keys tops
 short-tries n above k none s l h = absurd (omega arith)
 short-tries n above k (leaf c ts more) s l h = short-join k c (short-leaf (join k c) ts (s .1) (tested-left hasSlot (map (under (join k c)) ts) (keys k more) h))
-short-tries n above k (inner d c kids more) s l h =
-    short-join k c (short-tries n (below d) (join k c) kids (s .2) (omega (arith, s .1)) (tested-left hasSlot (keys (join k c) kids) (keys k more) h))
+short-tries n above k (inner d c children more) s l h =
+    short-join k c (short-tries n (below d) (join k c) children (s .2) (omega (arith, s .1)) (tested-left hasSlot (keys (join k c) children) (keys k more) h))
 
-pub roomy : (n : ℕ) (above : Above) (k : Strings) (f : Forest) → Sound n above f → all hasSlot (keys k f) ≡ true → Roomy k f
-unfolding Sound keys Roomy
-roomy n above k none s h = tt
-roomy n above k (leaf c ts more) s h =
+pub nodes-fit : (n : ℕ) (above : Above) (k : Strings) (f : Forest) → Sound n above f → all hasSlot (keys k f) ≡ true → NodesFit k f
+unfolding Sound keys NodesFit
+nodes-fit n above k none s h = tt
+nodes-fit n above k (leaf c ts more) s h =
     let xs = map (under (join k c)) ts in
-    (short-leaf (join k c) ts (s .1) (tested-left hasSlot xs (keys k more) h), roomy n above k more (s .3) (tested-right hasSlot xs (keys k more) h))
-roomy n above k (inner d c kids more) s h =
-    let xs = keys (join k c) kids in
+    (short-leaf (join k c) ts (s .1) (tested-left hasSlot xs (keys k more) h), nodes-fit n above k more (s .3) (tested-right hasSlot xs (keys k more) h))
+nodes-fit n above k (inner d c children more) s h =
+    let xs = keys (join k c) children in
     let own = tested-left hasSlot xs (keys k more) h in (
-      short-tries n (below d) (join k c) kids (s .2) (omega (arith, s .1)) own,
-      roomy n (below d) (join k c) kids (s .2) own,
-      roomy n above k more (s .3) (tested-right hasSlot xs (keys k more) h),
+      short-tries n (below d) (join k c) children (s .2) (omega (arith, s .1)) own,
+      nodes-fit n (below d) (join k c) children (s .2) own,
+      nodes-fit n above k more (s .3) (tested-right hasSlot xs (keys k more) h),
     )
 
 -- ---- what matches has a slot
@@ -75,9 +75,9 @@ found-takes q reach above k (leaf s ts more) h =
     let xs = map (under (join k s)) ts in
     ap₂ _++_ (ap (λ (l : List Key). cond (enters reach above k s) l []) (pick-takes q xs (tested-left hasSlot xs (keys k more) h)))
     (found-takes q reach above k more (tested-right hasSlot xs (keys k more) h))
-found-takes q reach above k (inner d s kids more) h =
-    let xs = keys (join k s) kids in
-    ap₂ _++_ (ap (λ (l : List Key). cond (enters reach above k s) l []) (found-takes q reach (below d) (join k s) kids (tested-left hasSlot xs (keys k more) h)))
+found-takes q reach above k (inner d s children more) h =
+    let xs = keys (join k s) children in
+    ap₂ _++_ (ap (λ (l : List Key). cond (enters reach above k s) l []) (found-takes q reach (below d) (join k s) children (tested-left hasSlot xs (keys k more) h)))
     (found-takes q reach above k more (tested-right hasSlot xs (keys k more) h))
 
 -- ---- the root: nothing is known
@@ -89,14 +89,14 @@ found-root : (reach : Strings → Bool) (m : Key → Bool) (f : Forest) → Regu
 unfolding found enters Regular join
 found-root reach m none h = refl
 found-root reach m (leaf s ts more) h = ap₂ _++_ (ap (λ (l : Strings). pick m (map (under l) ts)) (blank s (h .0))) (found-root reach m more (h .2))
-found-root reach m (inner d s kids more) h = ap₂ _++_ (ap (λ (l : Strings). found reach m (below d) l kids) (blank s (h .0))) (found-root reach m more (h .2))
+found-root reach m (inner d s children more) h = ap₂ _++_ (ap (λ (l : Strings). found reach m (below d) l children) (blank s (h .0))) (found-root reach m more (h .2))
 
 nodes-root : (reach : Strings → Bool) (f : Forest) → Regular 2 f → nodesEntered reach root nothing f ≡ nodesEntered reach root [] f
 unfolding nodesEntered enters Regular join
 nodes-root reach none h = refl
 nodes-root reach (leaf s ts more) h = ap (λ (n : ℕ). 1 + n) (nodes-root reach more (h .2))
-nodes-root reach (inner d s kids more) h =
-    ap₂ (λ (x y : ℕ). 1 + x + y) (ap (λ (l : Strings). nodesEntered reach (below d) l kids) (blank s (h .0))) (nodes-root reach more (h .2))
+nodes-root reach (inner d s children more) h =
+    ap₂ (λ (x y : ℕ). 1 + x + y) (ap (λ (l : Strings). nodesEntered reach (below d) l children) (blank s (h .0))) (nodes-root reach more (h .2))
 
 over-root : over rootKind ≡ root
 unfolding over
@@ -115,7 +115,7 @@ whole k {q} w =
             tries = f;
             regular = w .regular;
             high = w .high;
-            roomy = roomy 2 root nothing f (w .sound) slots;
+            nodes-fit = nodes-fit 2 root nothing f (w .sound) slots;
             bytes = w .bytes;
             is = w .is ∙ sym (found-root (reaches q) (wants q) f (w .regular)) ∙ found-takes q (reaches q) root nothing f slots;
             entered = w .entered ∙ sym (nodes-root (reaches q) f (w .regular));

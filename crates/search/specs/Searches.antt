@@ -65,10 +65,10 @@ abbrev pub Short : Strings → Type 0
 Short k = (length (at 0 k) ≤ valueSize) × (length (at 1 k) ≤ endedLimit)
 
 -- those of every node have, with the bytes k known above the tries
-unfoldable pub Roomy : Strings → Forest → Type 0
-Roomy k none = Unit {0}
-Roomy k (leaf s ts more) = Short (join k s) × Roomy k more
-Roomy k (inner d s kids more) = Short (join k s) × Roomy (join k s) kids × Roomy k more
+unfoldable pub NodesFit : Strings → Forest → Type 0
+NodesFit k none = Unit {0}
+NodesFit k (leaf s ts more) = Short (join k s) × NodesFit k more
+NodesFit k (inner d s children more) = Short (join k s) × NodesFit (join k s) children × NodesFit k more
 
 -- the same of suffixes, of tries, and of the body of a node
 pub record SuffixesFound (q : Query) (k : Strings) (t : List ℕ) (ks : List Key) (e : ℕ) : Type 0 where
@@ -82,7 +82,7 @@ pub record TriesFound (q : Query) (above : Above) (depth : ℕ) (k : Strings) (t
   pub tries : Forest
   pub regular : Regular 2 tries
   pub high : height tries ≤ depth
-  pub roomy : Roomy k tries
+  pub nodes-fit : NodesFit k tries
   pub bytes : t ≡ encode tries
   pub is : ks ≡ found (reaches q) (takes q) above k tries
   pub entered : e ≡ nodesEntered (reaches q) above k tries

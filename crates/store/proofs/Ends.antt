@@ -12,7 +12,7 @@ use Rattle.trie_theory.specs.Forest.{Strings, Key, Forest, none, leaf, inner, t
 use Rattle.trie_theory.specs.Strings.{at}
 use Rattle.trie_theory.specs.Dimensions.{root}
 use Rattle.trie_theory.specs.Sound.{Sound, Wide}
-use Rattle.trie_theory.specs.Encode.{Regular, Twenty, encode, nodeBytes, suffixBytes}
+use Rattle.trie_theory.specs.Encode.{Regular, WholeReference, encode, nodeBytes, suffixBytes}
 use Rattle.trie_theory.proofs.SoundLaws.{root-single}
 use Rattle.trie_read.specs.Heads.{front, nodeHead}
 use Rattle.trie_read.proofs.Node.{node-is, length-own, headAt, head-node}
@@ -39,7 +39,7 @@ node-root kind s body rest w =
     let next : ends t ≡ 7 + length (at 0 s) + length (at 1 s) + length body = cc in
     rw (length-own kind s body w, node-is kind s body rest w) (next, omega arith)
 
-some-suffixes : (ts : List Key) → 1 ≤ length ts → All (λ t. Wide 2 t × Twenty t) ts → 1 ≤ length (flat (map suffixBytes ts))
+some-suffixes : (ts : List Key) → 1 ≤ length ts → All (λ t. Wide 2 t × WholeReference t) ts → 1 ≤ length (flat (map suffixBytes ts))
 unfolding flat suffixBytes
 some-suffixes [] h a = absurd (omega arith)
 some-suffixes (t ∷ ts) h (cons w a) =
@@ -50,7 +50,7 @@ some-nodes : (f : Forest) → 2 ≤ length (tops f) → 1 ≤ length (encode f)
 unfolding tops encode nodeBytes
 some-nodes none h = absurd (omega arith)
 some-nodes (leaf s ts more) h = omega arith
-some-nodes (inner d s kids more) h = omega arith
+some-nodes (inner d s children more) h = omega arith
 
 node-rooted : (f : Forest) (kind : ℕ) (s : Strings) (body rest : List ℕ) → length s ≡ 2 → 1 ≤ length body → encode f ≡ nodeBytes kind s body ++ [] → Root f rest
 node-rooted f kind s body rest w h e =
@@ -63,8 +63,8 @@ unfolding Sound Regular encode
 rooted none rest s w = inl refl
 rooted (leaf st ts more) rest s w =
     inr (node-rooted _ 0 st (flat (map suffixBytes ts)) rest (w .0) (some-suffixes ts (s .1) (w .1)) (ap (λ (m : Forest). nodeBytes 0 st (flat (map suffixBytes ts)) ++ encode m) (root-single 2 st more (s .0))))
-rooted (inner d st kids more) rest s w =
-    inr (node-rooted _ (suc d) st (encode kids) rest (w .0) (some-nodes kids (s .1)) (ap (λ (m : Forest). nodeBytes (suc d) st (encode kids) ++ encode m) (root-single 2 st more (s .0))))
+rooted (inner d st children more) rest s w =
+    inr (node-rooted _ (suc d) st (encode children) rest (w .0) (some-nodes children (s .1)) (ap (λ (m : Forest). nodeBytes (suc d) st (encode children) ++ encode m) (root-single 2 st more (s .0))))
 
 -- zeros have no root
 seven-zeros : (n : ℕ) → bodyAt (replicate (suc (suc (suc (suc (suc (suc (suc n))))))) 0) ≡ 0

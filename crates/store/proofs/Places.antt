@@ -13,7 +13,7 @@ use Rattle.trie_theory.specs.Forest.{Key, Forest, keys}
 use Rattle.trie_theory.specs.Dimensions.{root}
 use Rattle.trie_theory.specs.Sound.{Sound}
 use Rattle.trie_theory.specs.Entries as Key
-use Rattle.trie_theory.specs.Encode.{Regular, Twenty, encode}
+use Rattle.trie_theory.specs.Encode.{Regular, WholeReference, encode}
 use Rattle.trie_theory.proofs.Encode.{sound-regular}
 use Rattle.trie_read.specs.Shape.{part}
 use Rattle.trie_read.proofs.Stretch.{length-part}
@@ -59,7 +59,7 @@ upTo-next (suc k) t = refl
 good-fits : {f : Front} {t : Tries} → GoodTries f t → Fit (f .M) (f .L) t
 good-fits g = record { small = g .small .fits; levels = λ i h. g .levels i h .fits }
 
-twenty : (xs : List Key) → All Key.OfEntry xs → All Twenty xs
+twenty : (xs : List Key) → All Key.OfEntry xs → All WholeReference xs
 twenty [] a = nil
 twenty (x ∷ xs) (cons e a) = cons (e .named) (twenty xs a)
 

@@ -127,4 +127,4 @@ leaf-grown s s₁ s₂ node body next used r y none w z n e b a h k fit m p q = 
 leaf-grown s s₁ s₂ node body next used r y (leaf st ts more) w z n e b a h k fit m p q =
     body-grown s s₁ s₂ node body next used 0 r st _ (w .0) e a h k fit
     (rw (suffixes-more ts y) (appended s s₁ body next used r (flat (map suffixBytes ts)) (suffixBytes y) b h k fit m p)) q
-leaf-grown s s₁ s₂ node body next used r y (inner d st kids more) w z n e b a h k fit m p q = absurd (omega arith)
+leaf-grown s s₁ s₂ node body next used r y (inner d st children more) w z n e b a h k fit m p q = absurd (omega arith)

@@ -34,9 +34,9 @@ pub inner-grown : (s s₁ s₂ : List ℕ) (node kind body next used depth r : �
 unfolding Regular Ascending height kindOf top bodyOf grownBody
 inner-grown s s₁ s₂ node kind body next used depth r y none above w asc h k z n e b p1 p2 p3 fit ad q = absurd (n refl)
 inner-grown s s₁ s₂ node kind body next used depth r y (leaf st ts more) above w asc h k z n e b p1 p2 p3 fit ad q = absurd (z k)
-inner-grown s s₁ s₂ node kind body next used depth r y (inner d st kids more) above w asc h k z n e b p1 p2 p3 fit ad q =
+inner-grown s s₁ s₂ node kind body next used depth r y (inner d st children more) above w asc h k z n e b p1 p2 p3 fit ad q =
     let below = rw k at ad in
-    body-grown s s₁ s₂ node body next used kind r st _ (w .0) e p1 p2 p3 fit (below .are kids (w .1) (asc .1) (omega arith) b) q
+    body-grown s s₁ s₂ node body next used kind r st _ (w .0) e p1 p2 p3 fit (below .are children (w .1) (asc .1) (omega arith) b) q
 
 -- ---- at a node
 

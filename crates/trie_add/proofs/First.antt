@@ -32,7 +32,7 @@ pub height-some : (f : Forest) → (f ≡ none → ⊥) → 1 ≤ height f
 unfolding height
 height-some none n = absurd (n refl)
 height-some (leaf s ts more) n = omega arith
-height-some (inner d s kids more) n = omega arith
+height-some (inner d s children more) n = omega arith
 
 -- ---- bytes
 
@@ -40,13 +40,13 @@ pub single-bytes : (f : Forest) → encode f ≡ encode (single f) ++ encode (si
 unfolding encode single siblings
 single-bytes none = refl
 single-bytes (leaf s ts more) = simp append-nil
-single-bytes (inner d s kids more) = simp append-nil
+single-bytes (inner d s children more) = simp append-nil
 
 pub single-own : (f : Forest) → (f ≡ none → ⊥) → encode (single f) ≡ nodeBytes (kindOf f) (top f) (bodyOf f)
 unfolding encode single kindOf top bodyOf
 single-own none n = absurd (n refl)
 single-own (leaf s ts more) n = append-nil (nodeBytes 0 s (flat (map suffixBytes ts)))
-single-own (inner d s kids more) n = append-nil (nodeBytes (suc d) s (encode kids))
+single-own (inner d s children more) n = append-nil (nodeBytes (suc d) s (encode children))
 
 -- ---- an addition to a node that has the key's branching byte
 
@@ -74,12 +74,12 @@ module _ (above : Above) (x : Key) where
           ≡ encode (cond b (leaf s (ts ++ (remains s x ∷ [])) none) (split above (λ s′ k. leaf s′ ts k) s x none)) ++ encode more
       go true = simp append-nil
       go false = split-before above (λ s′ k. leaf s′ ts k) s x more
-  single-added (inner d s kids more) n m = rw m (go (allBegin s (x .strings)))
+  single-added (inner d s children more) n m = rw m (go (allBegin s (x .strings)))
     where
-      go : (b : Bool) → encode (cond b (inner d s (added (below d) kids (remains s x)) more) (split above (λ s′ k. inner d s′ kids k) s x more))
-          ≡ encode (cond b (inner d s (added (below d) kids (remains s x)) none) (split above (λ s′ k. inner d s′ kids k) s x none)) ++ encode more
+      go : (b : Bool) → encode (cond b (inner d s (added (below d) children (remains s x)) more) (split above (λ s′ k. inner d s′ children k) s x more))
+          ≡ encode (cond b (inner d s (added (below d) children (remains s x)) none) (split above (λ s′ k. inner d s′ children k) s x none)) ++ encode more
       go true = simp append-nil
-      go false = split-before above (λ s′ k. inner d s′ kids k) s x more
+      go false = split-before above (λ s′ k. inner d s′ children k) s x more
 
   -- it agrees with the node's strings
   pub single-agrees : (f : Forest) → (f ≡ none → ⊥) → meets above (top f) (x .strings) ≡ true → allBegin (top f) (x .strings) ≡ true
@@ -87,7 +87,7 @@ module _ (above : Above) (x : Key) where
   unfolding encode single kindOf top grownBody added outcome
   single-agrees none n m g = absurd (n refl)
   single-agrees (leaf s ts more) n m g = rw (m, g) (append-nil _)
-  single-agrees (inner d s kids more) n m g = rw (m, g) (append-nil _)
+  single-agrees (inner d s children more) n m g = rw (m, g) (append-nil _)
 
   two-bytes : (d kind : ℕ) (node : Strings → Forest → Forest) (body : List ℕ) (s : Strings) (y : Key)
       → ((s′ : Strings) (k : Forest) → encode (node s′ k) ≡ nodeBytes kind s′ body ++ encode k)
@@ -108,10 +108,10 @@ module _ (above : Above) (x : Key) where
       let p = commons s (x .strings) in
       let d = differing above (strip p s) in
       rw (m, g) (append-nil _ ∙ ap (nodeBytes (suc d) p) (two-bytes d 0 (λ s′ k. leaf s′ ts k) (flat (map suffixBytes ts)) (strip p s) (remains p x) (λ s′ k. refl)))
-  single-differs (inner e s kids more) n m g =
+  single-differs (inner e s children more) n m g =
       let p = commons s (x .strings) in
       let d = differing above (strip p s) in
-      rw (m, g) (append-nil _ ∙ ap (nodeBytes (suc d) p) (two-bytes d (suc e) (λ s′ k. inner e s′ kids k) (encode kids) (strip p s) (remains p x) (λ s′ k. refl)))
+      rw (m, g) (append-nil _ ∙ ap (nodeBytes (suc d) p) (two-bytes d (suc e) (λ s′ k. inner e s′ children k) (encode children) (strip p s) (remains p x) (λ s′ k. refl)))
 
 -- ---- where the first stands in a slice
 
@@ -146,20 +146,20 @@ pub head-kind : (kind a b c : ℕ) (f : Forest) → Node kind a b c ≡ headOf f
 unfolding headOf kindOf bodyOf
 head-kind kind a b c none e = absurd (let z : _≡_ {A = ℕ} 0 1 = cc in omega arith)
 head-kind kind a b c (leaf s ts more) e = (λ n. let z : _≡_ {A = ℕ} 0 1 = cc in omega arith, cc)
-head-kind kind a b c (inner d s kids more) e = (λ n. let z : _≡_ {A = ℕ} 0 1 = cc in omega arith, cc)
+head-kind kind a b c (inner d s children more) e = (λ n. let z : _≡_ {A = ℕ} 0 1 = cc in omega arith, cc)
 
 head-lengths : (kind a b c : ℕ) (f : Forest) → Node kind a b c ≡ headOf f
     → (a ≡ 7 + length (at 0 (top f))) × (b ≡ 7 + length (at 0 (top f)) + length (at 1 (top f))) × (c ≡ 7 + length (at 0 (top f)) + length (at 1 (top f)) + length (bodyOf f))
 unfolding headOf bodyOf top
 head-lengths kind a b c none e = absurd (let z : _≡_ {A = ℕ} 0 1 = cc in omega arith)
 head-lengths kind a b c (leaf s ts more) e = (cc, cc, cc)
-head-lengths kind a b c (inner d s kids more) e = (cc, cc, cc)
+head-lengths kind a b c (inner d s children more) e = (cc, cc, cc)
 
 regular-top : (f : Forest) → Regular 2 f → (f ≡ none → ⊥) → length (top f) ≡ 2
 unfolding Regular top
 regular-top none w n = absurd (n refl)
 regular-top (leaf s ts more) w n = w .0
-regular-top (inner d s kids more) w n = w .0
+regular-top (inner d s children more) w n = w .0
 
 pub stands : (s : List ℕ) (node kind start body next : ℕ) (f : Forest) → Regular 2 f → region s node (next - node) ≡ encode (single f)
     → Node kind (start - node) (body - node) (next - node) ≡ headOf f → node ≤ start → start ≤ body → body ≤ next → next ≤ length s

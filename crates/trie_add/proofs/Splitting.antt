@@ -57,19 +57,19 @@ module _ (above : Above) (kind : ℕ) (nv np body v p r : List ℕ) (h : length 
   abbrev test : Bool
   test = ltb (first d (drop a v ∷ drop b p ∷ [])) (first d left)
 
-  unfoldable pub kids : Bool → List ℕ
-  kids t = cond t (new ++ (old ++ body)) ((old ++ body) ++ new)
+  unfoldable pub children : Bool → List ℕ
+  children t = cond t (new ++ (old ++ body)) ((old ++ body) ++ new)
 
-  length-kids : (t : Bool) → length (kids t) ≡ size
-  unfolding kids
+  length-kids : (t : Bool) → length (children t) ≡ size
+  unfolding children
   length-kids true = omega (arith, length-append new (old ++ body), length-append old body, length-front kind left (length body), length-newLeaf (drop a v) (drop b p) r h)
   length-kids false = omega (arith, length-append (old ++ body) new, length-append old body, length-front kind left (length body), length-newLeaf (drop a v) (drop b p) r h)
 
-  pub split-is : splitBytes above kind (nv ∷ np ∷ []) body (keyOf v p r) ≡ front (suc d) (take a nv ∷ take b np ∷ []) size ++ kids test
-  unfolding splitBytes commons strip remains kids
+  pub split-is : splitBytes above kind (nv ∷ np ∷ []) body (keyOf v p r) ≡ front (suc d) (take a nv ∷ take b np ∷ []) size ++ children test
+  unfolding splitBytes commons strip remains children
   split-is =
       rw (← in-value, ← in-path, own-is kind left body refl)
-      (own-is (suc d) (common nv v ∷ common np p ∷ []) (kids test) refl
+      (own-is (suc d) (common nv v ∷ common np p ∷ []) (children test) refl
       ∙ rw (length-kids test, taken nv v a in-value, taken np p b in-path))
 
   -- both fronts have gone into the place of the node's at `at`, and the leaf has gone into its place, before the node or behind it
@@ -110,16 +110,16 @@ module _ (above : Above) (kind : ℕ) (nv np body v p r : List ℕ) (h : length 
     new-long : length new ≡ 29 + length (drop a v) + length (drop b p)
     new-long = length-newLeaf (drop a v) (drop b p) r h
 
-    replaced : (t : Bool) → test ≡ t → s₂ ≡ splice s at (one ++ (kids t ++ tail)) → Replaced s at next used (splitBytes above kind (nv ∷ np ∷ []) body (keyOf v p r)) s₂ (7 + (29 + length (drop a v) + length (drop b p)))
+    replaced : (t : Bool) → test ≡ t → s₂ ≡ splice s at (one ++ (children t ++ tail)) → Replaced s at next used (splitBytes above kind (nv ∷ np ∷ []) body (keyOf v p r)) s₂ (7 + (29 + length (drop a v) + length (drop b p)))
     replaced t e q =
         record {
-          is = q ∙ rw (split-is, e) (ap (splice s at) (sym (append-assoc one (kids t) tail)));
-          long = rw split-is (omega (arith, length-append one (kids test), length-kids test, length-front kind left (length body), one-long, body-long, long));
+          is = q ∙ rw (split-is, e) (ap (splice s at) (sym (append-assoc one (children t) tail)));
+          long = rw split-is (omega (arith, length-append one (children test), length-kids test, length-front kind left (length body), one-long, body-long, long));
         }
 
     split-first : test ≡ true → s₂ ≡ splice s₁ (at + 7 + (a + b)) (new ++ region s₁ (at + 7 + (a + b)) (used + 7 - (at + 7 + (a + b))))
         → Replaced s at next used (splitBytes above kind (nv ∷ np ∷ []) body (keyOf v p r)) s₂ (7 + (29 + length (drop a v) + length (drop b p)))
-    unfolding kids
+    unfolding children
     split-first e q =
         let n : used + 7 - (at + 7 + (a + b)) ≡ length (old ++ (body ++ tail)) =
         omega (arith, one-whole, one-long, length-append old (body ++ tail), length-append body tail, body-long, tail-long) in
@@ -131,7 +131,7 @@ module _ (above : Above) (kind : ℕ) (nv np body v p r : List ℕ) (h : length 
 
     split-last : test ≡ false → s₂ ≡ splice s₁ (next + 7) (new ++ region s₁ (next + 7) (used + 7 - (next + 7)))
         → Replaced s at next used (splitBytes above kind (nv ∷ np ∷ []) body (keyOf v p r)) s₂ (7 + (29 + length (drop a v) + length (drop b p)))
-    unfolding kids
+    unfolding children
     split-last e q =
         let x = one ++ (old ++ body) in
         let l = length-append one (old ++ body) in

@@ -35,24 +35,24 @@ pub record Added (s : List ℕ) (off stop used above depth : ℕ) (x : Key) (s�
 unfoldable pub single : Forest → Forest
 single none = none
 single (leaf s ts more) = leaf s ts none
-single (inner d s kids more) = inner d s kids none
+single (inner d s children more) = inner d s children none
 
 unfoldable pub siblings : Forest → Forest
 siblings none = none
 siblings (leaf s ts more) = more
-siblings (inner d s kids more) = more
+siblings (inner d s children more) = more
 
 -- how the first branches, as in its head
 unfoldable pub kindOf : Forest → ℕ
 kindOf none = 0
 kindOf (leaf s ts more) = 0
-kindOf (inner d s kids more) = suc d
+kindOf (inner d s children more) = suc d
 
 -- the body of the first with a key added, of which y remains behind the first's strings
 unfoldable pub grownBody : Forest → Key → List ℕ
 grownBody none y = []
 grownBody (leaf s ts more) y = flat (map suffixBytes (ts ++ (y ∷ [])))
-grownBody (inner d s kids more) y = encode (added (below d) kids y)
+grownBody (inner d s children more) y = encode (added (below d) children y)
 
 -- the node from `node` to `next`, which has the key's branching byte
 pub record AddedAt (s : List ℕ) (node kind start body next used above depth : ℕ) (x : Key) (s′ : List ℕ) (r : ℕ) : Type 0 where

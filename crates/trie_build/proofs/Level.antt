@@ -13,7 +13,7 @@ use Rattle.entries.specs.Slots.{slotSize, slotKey}
 use Rattle.trie_theory.specs.Strings.{at, total}
 use Rattle.trie_theory.specs.Sound.{Wide}
 use Rattle.trie_theory.specs.Level.{levelOf}
-use Rattle.trie_theory.specs.Encode.{encode, Twenty}
+use Rattle.trie_theory.specs.Encode.{encode, WholeReference}
 use Rattle.trie_theory.proofs.TrieOf.{level-trie, figures}
 use Rattle.trie_sets.specs.Sets.{keysOf, shortPaths}
 use Rattle.trie_build.specs.Build.{trieRoom, Built}
@@ -32,7 +32,7 @@ module _ (s : List ℕ) (slots n τ : ℕ) (short : shortPaths n (drop slots s) 
   key-total k h =
       omega (arith, value-dimension (drop slots s) n inside .long k h, path-dimension (drop slots s) n inside short .long k h, path-short (drop slots s) n inside short k h)
 
-  key-twenty : (k : ℕ) → k < n → Twenty (keyAt (drop slots s) k)
+  key-twenty : (k : ℕ) → k < n → WholeReference (keyAt (drop slots s) k)
   unfolding slotKey
   key-twenty k h =
       length-region (region (drop slots s) (k * slotSize) slotSize) referenceAt referenceSize (omega (arith, slot-whole (drop slots s) n inside k h))
@@ -46,7 +46,7 @@ module _ (s : List ℕ) (slots n τ : ℕ) (short : shortPaths n (drop slots s) 
   level-fits =
       let l =
       level-trie 2 209 τ (keysOf n (drop slots s)) (all-keys {P = Wide 2} n (drop slots s) key-wide) (all-keys {P = λ x. total (x .strings) ≤ 209} n (drop slots s) key-total)
-      (all-keys {P = Twenty} n (drop slots s) key-twenty) in
+      (all-keys {P = WholeReference} n (drop slots s) key-twenty) in
       omega (arith, figures (l .0) .0, length-keysOf n (drop slots s))
 
   -- at the root

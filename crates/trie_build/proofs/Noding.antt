@@ -114,11 +114,11 @@ strip-none (a ∷ b ∷ []) e = refl
 strip-none (a ∷ b ∷ c ∷ s) e = absurd (omega arith)
 
 -- a node has the same bytes behind k and behind k′, where the strings have the same left
-node-strip : (k k′ : Strings) (ks : List Key) (o : Option ℕ) (kids : ℕ → Forest) (more : Forest) → strip k (shared ks) ≡ strip k′ (shared ks)
-    → node k ks o kids more ≡ node k′ ks o kids more
+node-strip : (k k′ : Strings) (ks : List Key) (o : Option ℕ) (children : ℕ → Forest) (more : Forest) → strip k (shared ks) ≡ strip k′ (shared ks)
+    → node k ks o children more ≡ node k′ ks o children more
 unfolding node
-node-strip k k′ ks none kids more e = rw e
-node-strip k k′ ks (some d) kids more e = rw e
+node-strip k k′ ks none children more e = rw e
+node-strip k k′ ks (some d) children more e = rw e
 
 pub root-bytes : (τ : ℕ) (x : Key) (xs : List Key) → length (shared (x ∷ xs)) ≡ 2 → trieBytes τ 0 0 0 (x ∷ xs) ≡ encode (levelOf 2 τ (x ∷ xs))
 unfolding trieBytes known levelOf

@@ -67,14 +67,14 @@ unfolding encode Regular headOf bodyOf
 first-node none h e = absurd (e refl)
 first-node (leaf s ts more) h e =
     record { kind = 0; strings = s; more = more; wide = h .0; told = refl; bytes = node-is 0 s (flat (map suffixBytes ts)) (encode more) (h .0) }
-first-node (inner d s kids more) h e =
-    record { kind = suc d; strings = s; more = more; wide = h .0; told = refl; bytes = node-is (suc d) s (encode kids) (encode more) (h .0) }
+first-node (inner d s children more) h e =
+    record { kind = suc d; strings = s; more = more; wide = h .0; told = refl; bytes = node-is (suc d) s (encode children) (encode more) (h .0) }
 
 pub empty-end : (f : Forest) → length (encode f) ≡ 0 → End ≡ headOf f
 unfolding encode headOf nodeBytes
 empty-end none e = refl
 empty-end (leaf s ts more) e = absurd (omega arith)
-empty-end (inner d s kids more) e = absurd (omega arith)
+empty-end (inner d s children more) e = absurd (omega arith)
 
 module _ (t : List ℕ) (f : Forest) (h : Regular 2 f) (e : t ≡ encode f) where
   pub as-end : length t ≡ 0 → End ≡ headOf f
@@ -156,14 +156,14 @@ pub record LeafView (g : Forest) (t : List ℕ) (path start next : ℕ) : Type 0
 pub record InnerView (g : Forest) (t : List ℕ) (kind path start next : ℕ) : Type 0 where
   pub dimension : ℕ
   pub strings : Strings
-  pub kids : Forest
+  pub children : Forest
   pub more : Forest
-  pub is : g ≡ inner dimension strings kids more
+  pub is : g ≡ inner dimension strings children more
   pub branches : kind ≡ suc dimension
-  pub lower : Regular 2 kids
+  pub lower : Regular 2 children
   pub shaped : Regular 2 more
   pub wide : length strings ≡ 2
-  pub places : Places t strings (encode kids) (encode more) path start next
+  pub places : Places t strings (encode children) (encode more) path start next
 
 -- a head equal to a node's has its places
 head-places : (kind : ℕ) (s : Strings) (body rest t : List ℕ) (kind' path start next : ℕ) → length s ≡ 2
@@ -189,25 +189,25 @@ leaf-view kind path start next t (leaf s ts more) w e h z =
       wide = w .0;
       places = head-places 0 s (flat (map suffixBytes ts)) (encode more) t kind path start next (w .0) e h;
     }
-leaf-view kind path start next t (inner d s kids more) w e h z = absurd (let y : kind ≡ suc d = cc in omega arith)
+leaf-view kind path start next t (inner d s children more) w e h z = absurd (let y : kind ≡ suc d = cc in omega arith)
 
 pub inner-view : (kind path start next : ℕ) (t : List ℕ) (g : Forest) → Regular 2 g → t ≡ encode g → Node kind path start next ≡ headOf g → (kind ≡ 0 → ⊥)
     → InnerView g t kind path start next
 unfolding encode headOf Regular bodyOf
 inner-view kind path start next t none w e h z = absurd (let y : _≡_ {A = ℕ} 0 1 = cc in omega arith)
 inner-view kind path start next t (leaf s ts more) w e h z = absurd (z cc)
-inner-view kind path start next t (inner d s kids more) w e h z =
+inner-view kind path start next t (inner d s children more) w e h z =
     record {
       dimension = d;
       strings = s;
-      kids = kids;
+      children = children;
       more = more;
       is = refl;
       branches = cc;
       lower = w .1;
       shaped = w .2;
       wide = w .0;
-      places = head-places (suc d) s (encode kids) (encode more) t kind path start next (w .0) e h;
+      places = head-places (suc d) s (encode children) (encode more) t kind path start next (w .0) e h;
     }
 
 -- the strings of a node of which the places are known
@@ -225,10 +225,10 @@ pub head-end : (g : Forest) → End ≡ headOf g → g ≡ none
 unfolding headOf
 head-end none h = refl
 head-end (leaf s ts more) h = absurd (let z : _≡_ {A = ℕ} 0 1 = cc in omega arith)
-head-end (inner d s kids more) h = absurd (let z : _≡_ {A = ℕ} 0 1 = cc in omega arith)
+head-end (inner d s children more) h = absurd (let z : _≡_ {A = ℕ} 0 1 = cc in omega arith)
 
 pub head-good : (g : Forest) → Bad ≡ headOf g → ⊥
 unfolding headOf
 head-good none h = let z : _≡_ {A = ℕ} 0 1 = cc in omega arith
 head-good (leaf s ts more) h = let z : _≡_ {A = ℕ} 0 1 = cc in omega arith
-head-good (inner d s kids more) h = let z : _≡_ {A = ℕ} 0 1 = cc in omega arith
+head-good (inner d s children more) h = let z : _≡_ {A = ℕ} 0 1 = cc in omega arith

@@ -63,12 +63,12 @@ module _ (above : Above) (s : Strings) (more : Forest) (x : Key) where
     unfolding added outcome precedes tops
     leaf-before l a = rw (apart above (x .strings) s (λ e. omega arith), precedes-yes above (x .strings) s (tops more) l a)
 
-  module _ (d : ℕ) (kids : Forest) where
-    inner-later : branching above s < branching above (x .strings) → added above (inner d s kids more) x ≡ inner d s kids (added above more x)
+  module _ (d : ℕ) (children : Forest) where
+    inner-later : branching above s < branching above (x .strings) → added above (inner d s children more) x ≡ inner d s children (added above more x)
     unfolding added outcome precedes tops
     inner-later l = rw (apart above (x .strings) s (λ e. omega arith), precedes-no above (x .strings) s (tops more) (omega arith))
 
-    inner-before : branching above (x .strings) < branching above s → precedes above s more ≡ true → added above (inner d s kids more) x ≡ newLeaf x (inner d s kids more)
+    inner-before : branching above (x .strings) < branching above s → precedes above s more ≡ true → added above (inner d s children more) x ≡ newLeaf x (inner d s children more)
     unfolding added outcome precedes tops
     inner-before l a = rw (apart above (x .strings) s (λ e. omega arith), precedes-yes above (x .strings) s (tops more) l a)
 
@@ -109,25 +109,25 @@ sibling-leaf above s ts more u path start next pl w h a =
       before = λ x l. leaf-before above s more x ts l (a .0);
     }
 
-sibling-inner : (above : Above) (d : ℕ) (s : Strings) (kids more : Forest) (u : List ℕ) (path start next : ℕ)
-    → Places u s (encode kids) (encode more) path start next → length s ≡ 2 → Regular 2 more → Ascending above (inner d s kids more)
-    → Sibling above (inner d s kids more) u path start next
+sibling-inner : (above : Above) (d : ℕ) (s : Strings) (children more : Forest) (u : List ℕ) (path start next : ℕ)
+    → Places u s (encode children) (encode more) path start next → length s ≡ 2 → Regular 2 more → Ascending above (inner d s children more)
+    → Sibling above (inner d s children more) u path start next
 unfolding encode Ascending top height
-sibling-inner above d s kids more u path start next pl w h a =
+sibling-inner above d s children more u path start next pl w h a =
     record {
       strings = s;
       more = more;
-      own = nodeBytes (suc d) s (encode kids);
+      own = nodeBytes (suc d) s (encode children);
       bytes = refl;
-      long = length-own (suc d) s (encode kids) w ∙ sym (pl .next-at);
+      long = length-own (suc d) s (encode children) w ∙ sym (pl .next-at);
       rest = pl .rest-is;
       known = strings-are pl w;
       first = refl;
       shaped = h;
       ascends = a .2;
       lower = omega arith;
-      later = λ x l. ap encode (inner-later above s more x d kids l);
-      before = λ x l. inner-before above s more x d kids l (a .0);
+      later = λ x l. ap encode (inner-later above s more x d children l);
+      before = λ x l. inner-before above s more x d children l (a .0);
     }
 
 pub sibling : (above : Above) (g : Forest) (u : List ℕ) (kind path start next : ℕ) → Regular 2 g → Ascending above g → u ≡ encode g → Node kind path start next ≡ headOf g
@@ -137,7 +137,7 @@ sibling above g u kind path start next h a e q =
     (λ z. let v = leaf-view kind path start next u g h e q z in
     rw (v .is) (sibling-leaf above (v .strings) (v .suffixes) (v .more) u path start next (v .places) (v .wide) (v .shaped) (rw (v .is) at a)))
     (λ z. let v = inner-view kind path start next u g h e q z in
-    rw (v .is) (sibling-inner above (v .dimension) (v .strings) (v .kids) (v .more) u path start next (v .places) (v .wide) (v .shaped) (rw (v .is) at a)))
+    rw (v .is) (sibling-inner above (v .dimension) (v .strings) (v .children) (v .more) u path start next (v .places) (v .wide) (v .shaped) (rw (v .is) at a)))
     (same? kind 0)
 
 added-none : (above : Above) (g : Forest) (x : Key) → g ≡ none → added above g x ≡ newLeaf x g

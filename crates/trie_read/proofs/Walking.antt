@@ -61,18 +61,18 @@ module _ (above : Above) (s : Strings) (more : Forest) (x : Key) where
   unfolding member
   leaf-in ts m g = rw (m, g)
 
-  inner-past : (d : ℕ) (kids : Forest) → meets above s (x .strings) ≡ false → member above (inner d s kids more) x ≡ member above more x
+  inner-past : (d : ℕ) (children : Forest) → meets above s (x .strings) ≡ false → member above (inner d s children more) x ≡ member above more x
   unfolding member
-  inner-past d kids m = rw m
+  inner-past d children m = rw m
 
-  inner-off : (d : ℕ) (kids : Forest) → meets above s (x .strings) ≡ true → allBegin s (x .strings) ≡ false → member above (inner d s kids more) x ≡ false
+  inner-off : (d : ℕ) (children : Forest) → meets above s (x .strings) ≡ true → allBegin s (x .strings) ≡ false → member above (inner d s children more) x ≡ false
   unfolding member
-  inner-off d kids m g = rw (m, g)
+  inner-off d children m g = rw (m, g)
 
-  inner-in : (d : ℕ) (kids : Forest) → meets above s (x .strings) ≡ true → allBegin s (x .strings) ≡ true
-      → member above (inner d s kids more) x ≡ member (below d) kids (remains s x)
+  inner-in : (d : ℕ) (children : Forest) → meets above s (x .strings) ≡ true → allBegin s (x .strings) ≡ true
+      → member above (inner d s children more) x ≡ member (below d) children (remains s x)
   unfolding member
-  inner-in d kids m g = rw (m, g)
+  inner-in d children m g = rw (m, g)
 
 -- a key goes on from strings no longer than its own
 pub on-lengths : (nv np v p : List ℕ) → allBegin (nv ∷ np ∷ []) (v ∷ p ∷ []) ≡ true → (length nv ≤ length v) × (length np ≤ length p)
@@ -131,7 +131,7 @@ module _ {t v p r : List ℕ} {above : ℕ} {f : Forest} {x : Key} {head : Head}
           over = g .more;
           shaped = g .shaped;
           bytes = g .places .rest-is;
-          same = sym (ap here (g .is) ∙ inner-past (aboveOf above) (g .strings) (g .more) (keyOf v p r) (g .dimension) (g .kids) (rw (strings-are (g .places) (g .wide)) at m)) ∙ w .same;
+          same = sym (ap here (g .is) ∙ inner-past (aboveOf above) (g .strings) (g .more) (keyOf v p r) (g .dimension) (g .children) (rw (strings-are (g .places) (g .wide)) at m)) ∙ w .same;
         })
         (same? kind 0)
 
@@ -144,7 +144,7 @@ module _ {t v p r : List ℕ} {above : ℕ} {f : Forest} {x : Key} {head : Head}
         sym (ap here (g .is) ∙ leaf-off (aboveOf above) (g .strings) (g .more) (keyOf v p r) (g .suffixes) (rw q at m) (rw q at o)) ∙ w .same)
         (λ z. let g = as-inner z in
         let q = strings-are (g .places) (g .wide) in
-        sym (ap here (g .is) ∙ inner-off (aboveOf above) (g .strings) (g .more) (keyOf v p r) (g .dimension) (g .kids) (rw q at m) (rw q at o)) ∙ w .same)
+        sym (ap here (g .is) ∙ inner-off (aboveOf above) (g .strings) (g .more) (keyOf v p r) (g .dimension) (g .children) (rw q at m) (rw q at o)) ∙ w .same)
         (same? kind 0)
 
     abbrev left : Key
@@ -174,12 +174,12 @@ module _ {t v p r : List ℕ} {above : ℕ} {f : Forest} {x : Key} {head : Head}
           let g = as-inner z in
           let q = strings-are (g .places) (g .wide) in
           record {
-            over = g .kids;
+            over = g .children;
             shaped = g .lower;
             bytes = g .places .body-is;
             same =
-                ap (λ (k : ℕ). member (aboveOf k) (g .kids) left) (g .branches)
-                ∙ ap (λ (k : Key). member (below (g .dimension)) (g .kids) k) (sym (left-is (g .places) (g .wide)))
-                ∙ sym (ap here (g .is) ∙ inner-in (aboveOf above) (g .strings) (g .more) (keyOf v p r) (g .dimension) (g .kids) (rw q at m) (rw q at o))
+                ap (λ (k : ℕ). member (aboveOf k) (g .children) left) (g .branches)
+                ∙ ap (λ (k : Key). member (below (g .dimension)) (g .children) k) (sym (left-is (g .places) (g .wide)))
+                ∙ sym (ap here (g .is) ∙ inner-in (aboveOf above) (g .strings) (g .more) (keyOf v p r) (g .dimension) (g .children) (rw q at m) (rw q at o))
                 ∙ w .same;
           }

@@ -25,13 +25,13 @@ nodeHead kind s body =
 unfoldable pub bodyOf : Forest → List ℕ
 bodyOf none = []
 bodyOf (leaf s ts more) = flat (map suffixBytes ts)
-bodyOf (inner d s kids more) = encode kids
+bodyOf (inner d s children more) = encode children
 
 unfoldable pub headOf : Forest → Head
 unfolding bodyOf
 headOf none = End
 headOf (leaf s ts more) = nodeHead 0 s (bodyOf (leaf s ts more))
-headOf (inner d s kids more) = nodeHead (suc d) s (bodyOf (inner d s kids more))
+headOf (inner d s children more) = nodeHead (suc d) s (bodyOf (inner d s children more))
 
 -- the places of a head lie in n bytes, in their sequence, and kind and lengths are bytes
 abbrev pub Inside : Head → ℕ → Type 0

@@ -31,7 +31,7 @@ pub record Passed (t : List ℕ) (above : ℕ) (k : Strings) (f : Forest) (at : 
 unfoldable pub top : Forest → Strings
 top none = []
 top (leaf s ts more) = s
-top (inner d s kids more) = s
+top (inner d s children more) = s
 
 -- the key belongs to the first of the tries from `at` on, whose head has these places
 pub record Here (t : List ℕ) (above : ℕ) (k : Strings) (f : Forest) (at kind path body next : ℕ) : Type 0 where

@@ -5,11 +5,11 @@ use lib.ListN.{take, drop}
 use Rattle.trie_theory.specs.Forest.{Key}
 use Rattle.trie_theory.specs.Dimensions.{Above, root, below}
 use Rattle.trie_theory.specs.Sound.{Wide}
-use Rattle.trie_theory.specs.Encode.{Twenty}
+use Rattle.trie_theory.specs.Encode.{WholeReference}
 
 -- a key, or a suffix: two strings, and a reference of 20 bytes
 abbrev pub Fixed : Key → Type 0
-Fixed x = Wide 2 x × Twenty x
+Fixed x = Wide 2 x × WholeReference x
 
 -- the key of a value, a path with its end byte, and a reference
 abbrev pub keyOf : List ℕ → List ℕ → List ℕ → Key

@@ -9,7 +9,7 @@ use Rattle.buffer.specs.Lists.{All, nil, cons, sum, flat}
 use Rattle.trie_theory.specs.Strings.{total}
 use Rattle.trie_theory.specs.Dimensions.{Above, below}
 use Rattle.trie_theory.specs.Sound.{Wide, Sound}
-use Rattle.trie_theory.specs.Encode.{suffixBytes, nodeBytes, encode, Twenty, Regular}
+use Rattle.trie_theory.specs.Encode.{suffixBytes, nodeBytes, encode, WholeReference, Regular}
 use Rattle.buffer.specs.Sizes.{referenceSize}
 use Rattle.buffer.specs.Numbers.{bytesOf, number}
 use Rattle.buffer.proofs.Digits.{length-bytesOf, number-bytesOf}
@@ -17,7 +17,7 @@ use Rattle.trie_theory.specs.Size.{cost}
 use Rattle.buffer.proofs.Lists.{all-left, all-right, all-unmap, all-both}
 pub use Rattle.buffer.proofs.Lists.{halves}
 
-pub sound-regular : (n : ℕ) (above : Above) (k : Strings) (f : Forest) → Sound n above f → All Twenty (keys k f) → Regular n f
+pub sound-regular : (n : ℕ) (above : Above) (k : Strings) (f : Forest) → Sound n above f → All WholeReference (keys k f) → Regular n f
 unfolding Regular Sound keys under
 sound-regular n above k none h a = tt
 sound-regular n above k (leaf s ts more) h a = (
@@ -49,7 +49,7 @@ length-node kind s body =
       length-flat s,
     )
 
-pub length-suffix : (n : ℕ) (t : Key) → Wide n t → Twenty t → length (suffixBytes t) ≡ referenceSize + n + total (t .strings)
+pub length-suffix : (n : ℕ) (t : Key) → Wide n t → WholeReference t → length (suffixBytes t) ≡ referenceSize + n + total (t .strings)
 unfolding suffixBytes
 length-suffix n t w r =
     omega (
@@ -60,7 +60,7 @@ length-suffix n t w r =
       length-flat (t .strings),
     )
 
-length-suffixes : (n : ℕ) {ts : List Key} → All (λ t. Wide n t × Twenty t) ts
+length-suffixes : (n : ℕ) {ts : List Key} → All (λ t. Wide n t × WholeReference t) ts
     → length (flat (map suffixBytes ts)) ≡ sum (λ t. referenceSize + n + total (t .strings)) ts
 unfolding flat sum
 length-suffixes n nil = refl
@@ -106,7 +106,7 @@ strings-parts (s ∷ ss) (t ∷ ts) a b l e =
 equal-lengths : (s t : Strings) → length s ≡ length t → length (map length s) ≡ length (map length t)
 equal-lengths s t e = length-map s length ∙ e ∙ sym (length-map t length)
 
-suffix-parts : (n : ℕ) (t u : Key) (a b : List ℕ) → Wide n t × Twenty t → Wide n u × Twenty u
+suffix-parts : (n : ℕ) (t u : Key) (a b : List ℕ) → Wide n t × WholeReference t → Wide n u × WholeReference u
     → suffixBytes t ++ a ≡ suffixBytes u ++ b → (t ≡ u) × (a ≡ b)
 unfolding suffixBytes
 suffix-parts n t u a b h g e =
@@ -116,7 +116,7 @@ suffix-parts n t u a b h g e =
     let r = strings-parts (t .strings) (u .strings) a b (p .0) (q .1) in
     (ap₂ (λ (s : Strings) (l : List ℕ). record { strings = s; reference = l }) (r .0) (q .0), r .1)
 
-suffixes-parts : (n : ℕ) {ts us : List Key} → All (λ t. Wide n t × Twenty t) ts → All (λ t. Wide n t × Twenty t) us
+suffixes-parts : (n : ℕ) {ts us : List Key} → All (λ t. Wide n t × WholeReference t) ts → All (λ t. Wide n t × WholeReference t) us
     → flat (map suffixBytes ts) ≡ flat (map suffixBytes us) → ts ≡ us
 unfolding flat
 suffixes-parts n nil nil e = refl

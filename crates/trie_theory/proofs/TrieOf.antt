@@ -26,7 +26,7 @@ use Rattle.buffer.proofs.Sums.{count-sum, equal-length, equal-picked, equal-all
 use Rattle.trie_theory.proofs.Search.{found-all}
 use Rattle.trie_theory.proofs.SoundLaws.{nodes-known, height-bound, cost-bound}
 use Rattle.trie_theory.proofs.Lookup.{member-among}
-use Rattle.trie_theory.specs.Encode.{Twenty}
+use Rattle.trie_theory.specs.Encode.{WholeReference}
 use Rattle.trie_theory.proofs.Encode.{sound-regular, length-encode}
 use Rattle.trie_theory.proofs.LevelKept.{level-sum}
 use Rattle.trie_theory.proofs.LevelSound.{level-well}
@@ -40,14 +40,14 @@ counted p xs ys e = count-sum p xs ∙ e ∙ sym (count-sum p ys)
 
 -- A SOUND TRIE with the keys xs, each as often
 pub sound-trie : (n m : ℕ) (xs : List Key) (t : Forest) → Sound n root t → ((h : Key → ℕ) → sum h (keys [] t) ≡ sum h xs)
-    → All (λ x. total (x .strings) ≤ m) xs → All Twenty xs → TrieOf n m xs t
+    → All (λ x. total (x .strings) ≤ m) xs → All WholeReference xs → TrieOf n m xs t
 unfolding among
 sound-trie n m xs t s equal short named =
     let short-keys : All (λ x. total (x .strings) ≤ m) (keys [] t) =
     equal-all (keys [] t) xs equal (λ x. leb (total (x .strings)) m) (λ x. total (x .strings) ≤ m)
     (λ x e. leb-true (total (x .strings)) m e) (λ x l. le-leb (total (x .strings)) m l) short in
-    let named-keys : All Twenty (keys [] t) =
-    equal-all (keys [] t) xs equal (λ x. eqb (length (x .reference)) referenceSize) Twenty
+    let named-keys : All WholeReference (keys [] t) =
+    equal-all (keys [] t) xs equal (λ x. eqb (length (x .reference)) referenceSize) WholeReference
     (λ x e. eqb-true (length (x .reference)) referenceSize e) (λ x e. eq-eqb (length (x .reference)) referenceSize e) named in
     let many = equal-length (keys [] t) xs equal in
     record {
@@ -70,7 +70,7 @@ sound-trie n m xs t s equal short named =
         rw (e, ← same) l
 
 -- A LEVEL, whose siblings ascend
-pub level-trie : (n m τ : ℕ) (xs : List Key) → All (Wide n) xs → All (λ x. total (x .strings) ≤ m) xs → All Twenty xs
+pub level-trie : (n m τ : ℕ) (xs : List Key) → All (Wide n) xs → All (λ x. total (x .strings) ≤ m) xs → All WholeReference xs
     → TrieOf n m xs (levelOf n τ xs) × Ascending root (levelOf n τ xs)
 level-trie n m τ xs wide short named =
     let w = level-well n τ xs wide in
@@ -78,7 +78,7 @@ level-trie n m τ xs wide short named =
 
 -- A SMALL TRIE, whose siblings ascend and which has one path and value per leaf
 pub small-trie : (cs : List (List ℕ → Bool)) → All Stops cs → (m : ℕ) (xs : List Key)
-    → All (λ x. complete cs (x .strings) ≡ true) xs → All (λ x. total (x .strings) ≤ m) xs → All Twenty xs
+    → All (λ x. complete cs (x .strings) ≡ true) xs → All (λ x. total (x .strings) ≤ m) xs → All WholeReference xs
     → TrieOf (length cs) m xs (smallTrie xs) × Ascending root (smallTrie xs) × EmptySuffixes (smallTrie xs)
 small-trie cs stop m xs whole short named =
     let s = small-small cs stop whole in

@@ -26,11 +26,11 @@ encode (leaf s ts more) = nodeBytes 0 s (flat (map suffixBytes ts)) ++ encode mo
 encode (inner d s children more) = nodeBytes (suc d) s (encode children) ++ encode more
 
 -- a reference has 20 bytes
-abbrev pub Twenty : Key → Type 0
-Twenty x = length (x .reference) ≡ referenceSize
+abbrev pub WholeReference : Key → Type 0
+WholeReference x = length (x .reference) ≡ referenceSize
 
 -- what the encoding asks for: n strings in each node and suffix, and references of 20 bytes
 unfoldable pub Regular : ℕ → Forest → Type 0
 Regular n none = Unit {0}
-Regular n (leaf s ts more) = (length s ≡ n) × All (λ t. Wide n t × Twenty t) ts × Regular n more
+Regular n (leaf s ts more) = (length s ≡ n) × All (λ t. Wide n t × WholeReference t) ts × Regular n more
 Regular n (inner d s children more) = (length s ≡ n) × Regular n children × Regular n more
