@@ -3,3 +3,4 @@ pub mod Parts
 pub mod Trials
 pub mod Cuts
 mod Begins
+mod Leading

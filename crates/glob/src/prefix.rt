@@ -1,0 +1,45 @@
+// Which bytes does every path that fits a pattern begin with? A search rules out most paths by them, without trying to fit them.
+use crate::bytes::SLASH;
+use crate::bytes::STAR;
+use crate::split::byte_at;
+use crate::split::is_deep;
+use crate::split::next_slash;
+ghost use Rattle.glob.specs.Inner.{Plain};
+ghost use Rattle.glob.specs.Prefix.{LiteralPrefix};
+
+// How many bytes of a label of a pattern stand before its first `*`?
+fn plain_length(l: &[u8]) -> usize
+    ensures { λ r. ⌜ Plain (now (l .entry)) r ⌝ }
+{
+    let mut i = 0;
+    while i < l.len() {
+        if l[i] == STAR {
+            return i;
+        }
+        i += 1;
+    }
+    i
+}
+
+// How many bytes stand before the first `*`? The `/` of a `**` is not among them, since that may take no label: `/a/**` fits `/a`.
+// 0 where the pattern does not begin with `/`.
+pub fn literal_prefix(pattern: &[u8]) -> usize
+    ensures { λ r. ⌜ LiteralPrefix (now (pattern .entry)) r ⌝ }
+{
+    if byte_at(pattern, 0) != SLASH {
+        return 0;
+    }
+    let mut a = 0;
+    while a < pattern.len() {
+        let b = a + next_slash(&pattern[a..], 1);
+        if is_deep(&pattern[a + 1..b]) {
+            return a;
+        }
+        let n = a + 1 + plain_length(&pattern[a + 1..b]);
+        if n < b {
+            return n;
+        }
+        a = b;
+    }
+    a
+}
