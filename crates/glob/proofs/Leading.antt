@@ -1,10 +1,10 @@
 -- The bytes before the first `*` of a pattern: every path that fits begins with them. Assumes nothing.
 use mathlib.Core.Path.{_≡_, refl, sym, ap, ap₂, subst, _∙_}
 use mathlib.Core.List.{List, [], _∷_, _++_}
-use mathlib.Core.Bool.{Bool, true, false, _&&_}
+use mathlib.Core.Bool.{Bool, true, false, not, _&&_, _||_}
 use Prim.Native.Nat.{ℕ, suc, _+_, _-_, _<_, _≤_}
 use native.Mathlib.Omega.{arith}
-use lib.ListN.{length, take, drop, getD, length-take, length-drop}
+use lib.ListN.{length, take, drop, getD, length-take, length-drop, drop-of-length-le}
 use lib.Seq.{length-take-le, take-take, take-add, drop-drop, take-length, drop-length}
 use lib.Dec.{eqb}
 use borrow.Author.Tests.{eqb-true, ne-eqb}
@@ -14,7 +14,7 @@ use Rattle.glob.specs.Bytes.{slash, star}
 use Rattle.glob.specs.Labels.{upToSlash, labelsOf, deep}
 use Rattle.glob.specs.Fit.{first, fitsLabel, fitLabels, fitsPath}
 use Rattle.glob.specs.Inner.{Begun, Plain}
-use Rattle.glob.specs.Prefix.{LiteralPrefix}
+use Rattle.glob.specs.Prefix.{LiteralPrefix, differs}
 use Rattle.glob.proofs.Parts.{tail-part, no-items, back, step}
 use Rattle.glob.proofs.Trials.{fit-one, end-law}
 use Rattle.glob.proofs.Cuts.{take-up, drop-up, begun-up}
@@ -173,3 +173,20 @@ module _ (pattern : List ℕ) (a r n : ℕ) (l : a < length pattern) (h : Led pa
             (λ (i : ℕ). (take i path ≡ take i pattern) × Begun (drop i path) × (fitLabels (labelsOf (drop i pattern)) (labelsOf (drop i path)) ≡ true)) here
             (x .bytes, x .rest all .0, x .rest all .1);
       })
+
+-- two lists that are alike up to place i: what is left of them decides
+abbrev pub Undecided : List ℕ → List ℕ → ℕ → Type 0
+Undecided a b i = differs a b ≡ differs (drop i a) (drop i b)
+
+pub differs-on : (a b : List ℕ) (i : ℕ) → i < length a → i < length b → differs (drop i a) (drop i b) ≡ not (eqb (getD a i 0) (getD b i 0)) || differs (drop (i + 1) a) (drop (i + 1) b)
+differs-on a b i l m = ap₂ differs (step a i l) (step b i m)
+
+pub differs-end : (a b : List ℕ) (i : ℕ) → length a ≤ i → differs (drop i a) (drop i b) ≡ false
+differs-end a b i l = ap (λ (t : List ℕ). differs t (drop i b)) (drop-of-length-le a l)
+
+pub differs-short : (a b : List ℕ) (i : ℕ) → length b ≤ i → differs (drop i a) (drop i b) ≡ false
+differs-short a b i l = ap (differs (drop i a)) (drop-of-length-le b l) ∙ go (drop i a)
+  where
+    go : (a : List ℕ) → differs a [] ≡ false
+    go [] = refl
+    go (c ∷ a) = refl

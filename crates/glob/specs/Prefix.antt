@@ -1,9 +1,10 @@
--- The bytes with which every path that fits a pattern begins. Assumes nothing: this is a definition.
+-- The bytes with which every path that fits a pattern begins. Assumes nothing: these are definitions.
 use Prim.Native.Nat.{ℕ, _≤_}
 use mathlib.Core.Path.{_≡_}
-use mathlib.Core.List.{List}
-use mathlib.Core.Bool.{true}
+use mathlib.Core.List.{List, [], _∷_}
+use mathlib.Core.Bool.{Bool, true, false, not, _||_}
 use lib.ListN.{length, take, getD}
+use lib.Dec.{eqb}
 use Rattle.glob.specs.Bytes.{slash}
 use Rattle.glob.specs.Fit.{fitsPath}
 
@@ -11,3 +12,9 @@ use Rattle.glob.specs.Fit.{fitsPath}
 pub record LiteralPrefix (pattern : List ℕ) (n : ℕ) : Type 0 where
   pub in-pattern : n ≤ length pattern
   pub begins : (path : List ℕ) → getD path 0 0 ≡ slash → fitsPath pattern path ≡ true → take n path ≡ take n pattern
+
+-- two lists differ at a place that both have
+abbrev pub differs : List ℕ → List ℕ → Bool
+differs [] s = false
+differs (c ∷ l) [] = false
+differs (c ∷ l) (x ∷ s) = not (eqb c x) || differs l s

@@ -4,8 +4,9 @@ use crate::bytes::STAR;
 use crate::split::byte_at;
 use crate::split::is_deep;
 use crate::split::next_slash;
+ghost use mathlib.Core.Path.{_≡_};
 ghost use Rattle.glob.specs.Inner.{Plain};
-ghost use Rattle.glob.specs.Prefix.{LiteralPrefix};
+ghost use Rattle.glob.specs.Prefix.{LiteralPrefix, differs};
 
 // How many bytes of a label of a pattern stand before its first `*`?
 fn plain_length(l: &[u8]) -> usize
@@ -42,4 +43,21 @@ pub fn literal_prefix(pattern: &[u8]) -> usize
         a = b;
     }
     a
+}
+
+// Do two stretches differ at a place that both have?
+pub fn differs(a: &[u8], b: &[u8]) -> bool
+    ensures { λ r. ⌜ r ≡ differs (now (a .entry)) (now (b .entry)) ⌝ }
+{
+    let mut i = 0;
+    while i < a.len() {
+        if b.len() <= i {
+            return false;
+        }
+        if a[i] != b[i] {
+            return true;
+        }
+        i += 1;
+    }
+    false
 }

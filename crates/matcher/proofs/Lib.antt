@@ -6,3 +6,4 @@ mod Goes
 mod Joined
 mod Prefixes
 pub mod Decided
+pub mod Ruled

@@ -1,0 +1,57 @@
+-- Bytes that differ from those with which every path that fits begins are a mismatch. Assumes nothing.
+use mathlib.Core.Path.{_≡_, refl, sym, ap, _∙_}
+use mathlib.Core.List.{List, [], _∷_, _++_, append-assoc}
+use mathlib.Core.Bool.{Bool, true, false, not, _||_}
+use Prim.Native.Nat.{ℕ, zero, suc, _+_, _-_, _≤_}
+use native.Mathlib.Omega.{arith}
+use lib.ListN.{length, take, drop, getD, length-take}
+use lib.Seq.{length-take-le, take-append-le, take-append-add, take-add, drop-at}
+use lib.Dec.{eqb, eqb-refl}
+use borrow.Author.Tests.{eq-eqb, eqb-true}
+use Rattle.buffer.specs.Lists.{all}
+use Rattle.buffer.proofs.Tests.{not-both, and-left}
+use Rattle.glob.specs.Prefix.{LiteralPrefix, differs}
+use Rattle.matcher.specs.Bytes.{slash, endByte}
+use Rattle.matcher.specs.Labels.{labelsOf}
+use Rattle.matcher.specs.Form.{pathLabel, formedPath}
+use Rattle.matcher.specs.Continued.{Continued, Told}
+use Rattle.matcher.specs.Reach.{reachOf}
+use Rattle.matcher.specs.declared.reach.Answer.{Answer}
+use Rattle.matcher.specs.declared.reach.Answer.the-variants.{Match, Mismatch, Incomplete}
+use Rattle.matcher.proofs.Decided.{told}
+
+-- what begins with all of s does not differ from s
+alike : (m : ℕ) (s more : List ℕ) → differs (take m (s ++ more)) s ≡ false
+alike zero s more = refl
+alike (suc m) [] [] = refl
+alike (suc m) [] (y ∷ more) = refl
+alike (suc m) (x ∷ s) more = rw (eq-eqb x x refl) (alike m s more)
+
+module _ (pattern known s : List ℕ) (n : ℕ) (h : LiteralPrefix pattern n) (l : length known ≤ n) where
+  -- the bytes of the pattern behind those known
+  abbrev left : List ℕ
+  left = take (n - length known) (drop (length known) pattern)
+
+  behind : Continued pattern (known ++ s) → differs left s ≡ false
+  behind c =
+      let path = c .path in
+      let p = length known in
+      let k = n - p in
+      let same : take n path ≡ take n pattern = h .begins path (eqb-true (getD path 0 0) slash (and-left (eqb (getD path 0 0) slash) (all pathLabel (labelsOf path)) (c .is-path))) (c .fits) in
+      let size : length (take n path) ≡ n = ap length same ∙ length-take-le n pattern (h .in-pattern) in
+      let long : n ≤ length path = let m = length-take n path in omega arith in
+      let seam : p + k ≡ n = omega arith in
+      let read : take n (path ++ (endByte ∷ [])) ≡ known ++ take k (s ++ c .more) =
+          ap (take n) (sym (c .goes-on) ∙ append-assoc known s (c .more)) ∙ ap (λ (i : ℕ). take i (known ++ (s ++ c .more))) (sym seam) ∙ take-append-add known (s ++ c .more) k in
+      let both : take p pattern ++ left ≡ known ++ take k (s ++ c .more) =
+          sym (take-add p k pattern) ∙ ap (λ (i : ℕ). take i pattern) seam ∙ sym same ∙ sym (take-append-le n path (endByte ∷ []) long) ∙ read in
+      let is : left ≡ take k (s ++ c .more) = sym (drop-at (take p pattern) left p (length-take-le p pattern (omega (arith, h .in-pattern)))) ∙ ap (drop p) both ∙ drop-at known (take k (s ++ c .more)) p refl in
+      ap (λ (t : List ℕ). differs t s) is ∙ alike k s (c .more)
+
+  pub ruled-out : differs left s ≡ true → reachOf pattern (known ++ s) ≡ Mismatch
+  ruled-out e = go (reachOf pattern (known ++ s)) (told pattern (known ++ s))
+    where
+      go : (r : Answer) → Told pattern (known ++ s) r → r ≡ Mismatch
+      go Match t = not-both e (behind (t .0))
+      go Incomplete t = not-both e (behind (t .0))
+      go Mismatch t = refl
