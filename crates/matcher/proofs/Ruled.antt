@@ -15,7 +15,7 @@ use Rattle.matcher.specs.Bytes.{slash, endByte}
 use Rattle.matcher.specs.Labels.{labelsOf}
 use Rattle.matcher.specs.Form.{pathLabel, formedPath}
 use Rattle.matcher.specs.Continued.{Continued, Told}
-use Rattle.matcher.specs.Reach.{reachOf}
+use Rattle.matcher.specs.Reach.{reachOf, RuledOut}
 use Rattle.matcher.specs.declared.reach.Answer.{Answer}
 use Rattle.matcher.specs.declared.reach.Answer.the-variants.{Match, Mismatch, Incomplete}
 use Rattle.matcher.proofs.Decided.{told}
@@ -55,3 +55,12 @@ module _ (pattern known s : List ℕ) (n : ℕ) (h : LiteralPrefix pattern n) (l
       go Match t = not-both e (behind (t .0))
       go Incomplete t = not-both e (behind (t .0))
       go Mismatch t = refl
+
+-- a test that says no promises nothing
+pub not-ruled : (pattern : List ℕ) (literal p : ℕ) (s : List ℕ) → RuledOut pattern literal p s false
+not-ruled pattern literal p s = record { mismatch = λ h e. not-both e refl }
+
+pub by-difference : (pattern : List ℕ) (literal p : ℕ) (s : List ℕ) (r : Bool) → p ≤ literal → r ≡ differs (take (literal - p) (drop p pattern)) s → RuledOut pattern literal p s r
+by-difference pattern literal p s r l e = record {
+  mismatch = λ h t known is. ruled-out pattern known s literal h (omega arith) (ap (λ (i : ℕ). differs (take (literal - i) (drop i pattern)) s) is ∙ sym e ∙ t);
+}

@@ -2,7 +2,7 @@
 -- bytes (`proofs/Decided.antt`). Assumes nothing: these are definitions.
 use Prim.Native.Nat.{ℕ, _-_}
 use mathlib.Core.Path.{_≡_}
-use mathlib.Core.List.{List}
+use mathlib.Core.List.{List, _++_}
 use mathlib.Core.Bool.{Bool, true, false, cond, _&&_, _||_}
 use lib.ListN.{length, take, getD}
 use lib.Dec.{eqb}
@@ -12,6 +12,7 @@ use Rattle.matcher.specs.Labels.{labelsOf}
 use Rattle.matcher.specs.Fit.{fitsPath}
 use Rattle.matcher.specs.Form.{apart, formedPath, patternForm, isFine}
 pub use Rattle.glob.specs.Begins.{beginsLabel, beginsLabels}
+pub use Rattle.glob.specs.Prefix.{LiteralPrefix}
 use Rattle.matcher.specs.Continued.{ended, Told}
 use Rattle.matcher.specs.declared.reach.Answer.{Answer}
 use Rattle.matcher.specs.declared.reach.Answer.the-variants.{Match, Mismatch, Incomplete}
@@ -46,3 +47,7 @@ goesOn Mismatch = false
 pub record Reached (pattern known : List ℕ) (r : Answer) : Type 0 where
   pub is : r ≡ reachOf pattern known
   pub told : Told pattern known r
+
+-- what `ruled_out` promises of its answer r: bytes s that differ from those with which every path that fits begins, p bytes behind the first, are a mismatch
+pub record RuledOut (pattern : List ℕ) (literal p : ℕ) (s : List ℕ) (r : Bool) : Type 0 where
+  pub mismatch : LiteralPrefix pattern literal → r ≡ true → (known : List ℕ) → length known ≡ p → reachOf pattern (known ++ s) ≡ Mismatch

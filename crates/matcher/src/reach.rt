@@ -6,10 +6,14 @@ use crate::form::is_fine;
 use crate::form::is_path;
 use glob::begin::begins_formed;
 use glob::fit::fits_formed;
+use glob::prefix::differs;
 ghost use mathlib.Core.Path.{_≡_};
 ghost use mathlib.Core.Bool.{true};
 ghost use Rattle.matcher.specs.Form.{patternForm, isFine};
-ghost use Rattle.matcher.specs.Reach.{reachWhole, reachOpen, reachFormed, Reached};
+ghost use Rattle.matcher.specs.Reach.{reachWhole, reachOpen, reachFormed, Reached, RuledOut};
+
+// How many bytes of a pattern does every path that fits it begin with?
+pub use glob::prefix::literal_prefix;
 
 // What the bytes known of a path say of a pattern.
 pub enum Answer {
@@ -69,4 +73,18 @@ pub fn reach(pattern: &[u8], known: &[u8]) -> Answer
         return reach_formed(pattern, known);
     }
     Answer::Mismatch
+}
+
+// Are the bytes s, behind p bytes of a path, a mismatch whatever those are? `literal` bytes of the pattern are such that every path that fits begins with
+// them. A test for a search, cheaper than `reach_formed`, that tells most paths apart: where it says no, nothing is known.
+pub fn ruled_out(pattern: &[u8], literal: usize, p: usize, s: &[u8]) -> bool
+    ensures { λ r. ⌜ RuledOut (now (pattern .entry)) literal p (now (s .entry)) r ⌝ }
+{
+    if literal <= p {
+        return false;
+    }
+    if pattern.len() < literal {
+        return false;
+    }
+    differs(&pattern[p..literal], s)
 }
