@@ -8,6 +8,7 @@ use Rattle.buffer.specs.Sizes.{wordLimit}
 use Rattle.buffer.specs.Lists.{all, All, pick}
 use Rattle.buffer.specs.Splice.{splice}
 use Rattle.matcher.specs.Form.{patternForm, isFine}
+use Rattle.matcher.specs.Reach.{LiteralPrefix}
 use Rattle.rows.specs.Sizes.{valueSize, rowSize, nodeLimit}
 use Rattle.trie_theory.specs.Forest.{Strings, Key, Forest, none, leaf, inner, join, under, keys}
 use Rattle.trie_theory.specs.Strings.{at}
@@ -91,9 +92,9 @@ pub record BodyFound (q : Query) (kind depth : ℕ) (k : Strings) (t : List ℕ)
   pub leaf : kind ≡ 0 → SuffixesFound q k t ks e
   pub inner : (kind ≡ 0 → ⊥) → TriesFound q (over kind) depth k t ks e
 
--- what the walk asks for: a formed pattern, room for as many rows in the answer, counters that do not overflow, a key buffer
-pub record Ready (pattern t k s : List ℕ) (v p room rows nodes : ℕ) : Type 0 where
-  pub formed : isFine (patternForm pattern) ≡ true
+-- what the walk asks for: a formed pattern, of which `literal` bytes begin every path that fits, room for as many rows in the answer, counters that do not overflow, a key buffer
+pub record Ready (pattern t k s : List ℕ) (literal v p room rows nodes : ℕ) : Type 0 where
+  pub formed : (isFine (patternForm pattern) ≡ true) × LiteralPrefix pattern literal
   pub fits : room * rowSize ≤ length s
   pub fewRows : rows + length t < wordLimit
   pub fewNodes : nodes + length t < wordLimit

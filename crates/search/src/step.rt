@@ -10,6 +10,7 @@ use gather::key::compose;
 use gather::key::enter;
 use matcher::reach::Answer;
 use matcher::reach::reach_formed;
+use matcher::reach::ruled_out;
 use rows::sizes::PATH_AT;
 use rows::sizes::VALUE_SIZE;
 use trie_read::sizes::HEAD_SIZE;
@@ -22,7 +23,7 @@ ghost use lib.ListN.{length, take};
 ghost use lib.Dec.{eqb, ltb};
 ghost use Rattle.buffer.specs.Splice.{region, splice};
 ghost use Rattle.matcher.specs.Form.{patternForm, isFine};
-ghost use Rattle.matcher.specs.Reach.{reachOf, goesOn};
+ghost use Rattle.matcher.specs.Reach.{reachOf, goesOn, LiteralPrefix};
 ghost use Rattle.rows.specs.Sizes.{valueSize, pathAt};
 ghost use Rattle.trie_theory.specs.Search.{enters};
 ghost use Rattle.trie_read.specs.Sizes.{headSize, suffixSize};
@@ -158,16 +159,29 @@ fn path_with(pattern: &[u8], key: &mut [u8], p: usize, s: &[u8]) -> Answer
     reach_formed(pattern, &key[PATH_AT..end])
 }
 
+// The same, but most paths differ from the pattern where that has no wild byte yet: they are ruled out, and nothing is written.
+fn path_answer(pattern: &[u8], literal: usize, key: &mut [u8], p: usize, s: &[u8]) -> Answer
+    requires { ⌜ (isFine (patternForm (now pattern)) ≡ true) × LiteralPrefix (now pattern) literal ⌝ }
+    requires { ⌜ (length (now key) ≡ slotSize) × (p + length (now s) ≤ endedLimit + 1) ⌝ }
+    ensures { λ r. ⌜ r ≡ reachOf (now (pattern .entry)) (region (now (key .entry)) pathAt p ++ now (s .entry)) ⌝ }
+    ensures { λ _. ⌜ take (pathAt + p) (now (key .exit)) ≡ take (pathAt + p) (now (key .entry)) ⌝ }
+{
+    if ruled_out(pattern, literal, p, s) {
+        return Answer::Mismatch;
+    }
+    path_with(pattern, key, p, s)
+}
+
 // The answer of both dimensions, where the value is answered and the path has the bytes s more: it is asked where the value is no mismatch.
-fn ask_path(value: Answer, pattern: &[u8], key: &mut [u8], p: usize, s: &[u8]) -> Answer
-    requires { ⌜ isFine (patternForm (now pattern)) ≡ true ⌝ }
+fn ask_path(value: Answer, pattern: &[u8], literal: usize, key: &mut [u8], p: usize, s: &[u8]) -> Answer
+    requires { ⌜ (isFine (patternForm (now pattern)) ≡ true) × LiteralPrefix (now pattern) literal ⌝ }
     requires { ⌜ (length (now key) ≡ slotSize) × (p + length (now s) ≤ endedLimit + 1) ⌝ }
     ensures { λ r. ⌜ r ≡ both value (reachOf (now (pattern .entry)) (region (now (key .entry)) pathAt p ++ now (s .entry))) ⌝ }
     ensures { λ _. ⌜ take (pathAt + p) (now (key .exit)) ≡ take (pathAt + p) (now (key .entry)) ⌝ }
 {
     match value {
         Answer::Mismatch => Answer::Mismatch,
-        _ => both(value, path_with(pattern, key, p, s)),
+        _ => both(value, path_answer(pattern, literal, key, p, s)),
     }
 }
 
@@ -188,6 +202,7 @@ fn one_more(kind: usize, own: usize, path: usize, body: usize) -> usize
 fn admits(
     kind: usize,
     pattern: &[u8],
+    literal: usize,
     low: u64,
     high: u64,
     key: &mut [u8],
@@ -198,7 +213,7 @@ fn admits(
     body: usize,
     common: Common,
 ) -> bool
-    requires { ⌜ isFine (patternForm (now pattern)) ≡ true ⌝ }
+    requires { ⌜ (isFine (patternForm (now pattern)) ≡ true) × LiteralPrefix (now pattern) literal ⌝ }
     requires { ⌜ (length (now key) ≡ slotSize) × (v ≤ valueSize) × (p ≤ endedLimit) × (headSize ≤ path) × (path ≤ body) × (body ≤ length (now t)) × (kind ≡ 0 → ⊥) ⌝ }
     requires { ⌜ InCommon (asked (now pattern) low high) kind v p (now key) common ⌝ }
     ensures { λ r.
@@ -221,7 +236,7 @@ fn admits(
         return goes_on(both(value, other));
     }
     let end = one_more(kind, PATH_KIND, path, body);
-    goes_on(ask_path(other, pattern, key, p, &t[path..end]))
+    goes_on(ask_path(other, pattern, literal, key, p, &t[path..end]))
 }
 
 // Goes down to a node of the bytes t, if a search enters it and its strings have room: then they stand behind what is known.
@@ -234,16 +249,17 @@ pub(crate) fn descend(
     body: usize,
     kind: usize,
     pattern: &[u8],
+    literal: usize,
     low: u64,
     high: u64,
     common: Common,
 ) -> bool
-    requires { ⌜ isFine (patternForm (now pattern)) ≡ true ⌝ }
+    requires { ⌜ (isFine (patternForm (now pattern)) ≡ true) × LiteralPrefix (now pattern) literal ⌝ }
     requires { ⌜ (length (now key) ≡ slotSize) × (v ≤ valueSize) × (p ≤ endedLimit) × (headSize ≤ path) × (path ≤ body) × (body ≤ length (now t)) × (kind ≡ 0 → ⊥) ⌝ }
     requires { ⌜ InCommon (asked (now pattern) low high) kind v p (now key) common ⌝ }
     ensures { λ r. ⌜ Descended (asked (now (pattern .entry)) low high) kind v p (now (t .entry)) path body (now (key .entry)) (now (key .exit)) r ⌝ }
 {
-    if admits(kind, pattern, low, high, key, v, p, t, path, body, common) {
+    if admits(kind, pattern, literal, low, high, key, v, p, t, path, body, common) {
         return enter(key, v, p, t, path, body);
     }
     false
@@ -258,10 +274,11 @@ pub(crate) fn take_key(
     path: usize,
     next: usize,
     pattern: &[u8],
+    literal: usize,
     from: u64,
     to: u64,
 ) -> bool
-    requires { ⌜ isFine (patternForm (now pattern)) ≡ true ⌝ }
+    requires { ⌜ (isFine (patternForm (now pattern)) ≡ true) × LiteralPrefix (now pattern) literal ⌝ }
     requires { ⌜ (length (now key) ≡ slotSize) × (v ≤ valueSize) × (p ≤ endedLimit) × (suffixSize ≤ path) × (path ≤ next) × (next ≤ length (now b)) ⌝ }
     ensures { λ r.
         ⌜ ((low high : ℕ) → Spans (asked (now (pattern .entry)) low high) (take v (now (key .entry))) (valueSize - v) from to → Taken (asked (now (pattern .entry)) low high) v p (now (b .entry)) path next (now (key .entry)) (now (key .exit)) r) ⌝ }
@@ -273,7 +290,7 @@ pub(crate) fn take_key(
         return false;
     }
     let value = value_with(from, to, v, &b[SUFFIX_SIZE..path]);
-    if is_match(ask_path(value, pattern, key, p, &b[path..next])) {
+    if is_match(ask_path(value, pattern, literal, key, p, &b[path..next])) {
         return compose(key, v, p, b, path, next);
     }
     false

@@ -21,6 +21,7 @@ ghost use Prim.Native.Nat.{_+_, _*_, _<_, _≤_};
 ghost use lib.ListN.{length};
 ghost use Rattle.buffer.specs.Sizes.{wordLimit};
 ghost use Rattle.matcher.specs.Form.{patternForm, isFine};
+ghost use Rattle.matcher.specs.Reach.{LiteralPrefix};
 ghost use Rattle.rows.specs.Sizes.{rowSize};
 ghost use Rattle.gather.specs.KeySlots.{known};
 ghost use Rattle.search.specs.Asked.{asked};
@@ -36,6 +37,7 @@ pub struct Found {
 fn suffixes(
     body: &[u8],
     pattern: &[u8],
+    literal: usize,
     low: u64,
     high: u64,
     key: &mut [u8],
@@ -45,7 +47,7 @@ fn suffixes(
     room: usize,
     rows: usize,
 ) -> usize
-    requires { ⌜ Ready (now pattern) (now body) (now key) (now answer) v p room rows 0 ⌝ }
+    requires { ⌜ Ready (now pattern) (now body) (now key) (now answer) literal v p room rows 0 ⌝ }
     ensures { λ r. ⌜ r ≤ rows + length (now (body .entry)) ⌝ }
     ensures { λ r.
         ⌜ Searched (SuffixesFound (asked (now (pattern .entry)) low high) (known v p (now (key .entry))) (now (body .entry))) v p room rows 0 (now (answer .entry)) (now (key .entry)) (now (answer .exit)) (now (key .exit)) r 0 ⌝ }
@@ -56,7 +58,7 @@ fn suffixes(
     loop {
         match read_suffix(t) {
             Tail::At { path, next } => {
-                if take_key(key, v, p, t, path, next, pattern, rest.from, rest.to) {
+                if take_key(key, v, p, t, path, next, pattern, literal, rest.from, rest.to) {
                     put(answer, 0, m, room, &key[0..ROW_SIZE]);
                     m += 1;
                 }
@@ -78,6 +80,7 @@ fn walk(
     body: &[u8],
     kind: usize,
     pattern: &[u8],
+    literal: usize,
     low: u64,
     high: u64,
     key: &mut [u8],
@@ -89,13 +92,13 @@ fn walk(
     rows: usize,
     nodes: usize,
 ) -> Found
-    requires { ⌜ Ready (now pattern) (now body) (now key) (now answer) v p room rows nodes ⌝ }
+    requires { ⌜ Ready (now pattern) (now body) (now key) (now answer) literal v p room rows nodes ⌝ }
     ensures { λ r. ⌜ (r .rows ≤ rows + length (now (body .entry))) × (r .nodes ≤ nodes + length (now (body .entry))) ⌝ }
     ensures { λ r.
         ⌜ Searched (BodyFound (asked (now (pattern .entry)) low high) kind depth (known v p (now (key .entry))) (now (body .entry))) v p room rows nodes (now (answer .entry)) (now (key .entry)) (now (answer .exit)) (now (key .exit)) (r .rows) (r .nodes) ⌝ }
 {
     if kind == 0 {
-        let m = suffixes(body, pattern, low, high, key, v, p, answer, room, rows);
+        let m = suffixes(body, pattern, literal, low, high, key, v, p, answer, room, rows);
         return Found { rows: m, nodes };
     }
     if depth == 0 {
@@ -113,11 +116,12 @@ fn walk(
                 body: start,
                 next,
             } => {
-                if descend(key, v, p, t, path, start, kind, pattern, low, high, common) {
+                if descend(key, v, p, t, path, start, kind, pattern, literal, low, high, common) {
                     let found = walk(
                         &t[start..next],
                         own,
                         pattern,
+                        literal,
                         low,
                         high,
                         key,
@@ -144,10 +148,11 @@ fn walk(
     }
 }
 
-// Searches one trie, behind the rows and nodes of others. The pattern is formed.
+// Searches one trie, behind the rows and nodes of others. The pattern is formed, and every path that fits it begins with its first `literal` bytes.
 pub fn search_trie(
     tries: &[u8],
     pattern: &[u8],
+    literal: usize,
     low: u64,
     high: u64,
     answer: &mut [u8],
@@ -155,7 +160,7 @@ pub fn search_trie(
     rows: usize,
     nodes: usize,
 ) -> Found
-    requires { ⌜ isFine (patternForm (now pattern)) ≡ true ⌝ }
+    requires { ⌜ (isFine (patternForm (now pattern)) ≡ true) × LiteralPrefix (now pattern) literal ⌝ }
     requires { ⌜ (room * rowSize ≤ length (now answer)) × (rows + length (now tries) < wordLimit) × (nodes + length (now tries) < wordLimit) ⌝ }
     ensures { λ r.
         ⌜ TrieSearched (asked (now (pattern .entry)) low high) (now (tries .entry)) room rows nodes (now (answer .entry)) (now (answer .exit)) (r .rows) (r .nodes) ⌝ }
@@ -165,6 +170,7 @@ pub fn search_trie(
         tries,
         ROOT,
         pattern,
+        literal,
         low,
         high,
         &mut key,

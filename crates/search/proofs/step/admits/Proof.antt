@@ -50,7 +50,7 @@ returns-3 c =
           ∙ both-goes (a .common .other) (reachOf (a .pattern .now) (region (a .key .now) pathAt (a .p) ++ part (a .path) (end .result) (a .t .now)))
           ∙ ap (λ (x : Answer). goesOn x && goesOn (reachOf (a .pattern .now) (region (a .key .now) pathAt (a .p) ++ part (a .path) (end .result) (a .t .now)))) other
           ∙ enters-path (asked (a .pattern .now) (a .low) (a .high)) (a .kind) (a .v) (a .p) (a .key .now) (part 7 (a .path) (a .t .now)) (a .t .now) (a .path) (a .body) (end .result) (pre .1 .0 .6) (c .before .before .before .before .before .before .before .if2 .left) (c .before .before .before .before .before .before .before .before .if1 .left) (pre .1 .0 .4) (end .ensures .0),
-      known-front (a .v) (a .p) (a .key .now) _ (pre .1 .0 .0) (g .kept .1 .1 .0 ∙ pre .1 .0 .0) (pre .1 .0 .1) (g .ensures .1),
+      known-front (a .v) (a .p) (a .key .now) _ (pre .1 .0 .0) (g .kept .1 .1 .1 .0 ∙ pre .1 .0 .0) (pre .1 .0 .1) (g .ensures .1),
     )
 
 pub admits-spec : {M : Type 1} → statement M

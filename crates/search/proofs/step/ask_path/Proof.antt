@@ -2,16 +2,14 @@
 use borrow.Author.Needs.{needs}
 use mathlib.Core.Path.{ap, _∙_}
 use Rattle.search.specs.Steps.{both}
-use Rattle.search.proofs.Steps.{front-kept}
 use Rattle.search.proofs.step.ask_path.Statement.{statement}
 use Rattle.search.proofs.step.ask_path.Tie as tie
 
 returns-2 : tie.Need-returns-2
 returns-2 c =
     let a = c .before .before .before .before .before .before .before .before .before .args in
-    let pre = c .before .before .before .before .before .before .before .before .before .pre .1 in
-    let w = c .before .before .before .path-with .ensures in
-    (c .both .ensures ∙ ap (both (a .value)) (w .0), front-kept (a .key .now) _ (a .s .now) (a .p) (pre .0) (pre .1) (w .1))
+    let w = c .before .before .before .path-answer .ensures in
+    (c .both .ensures ∙ ap (both (a .value)) (w .0), w .1)
 
 pub ask-path-spec : {M : Type 1} → statement M
 ask-path-spec =

@@ -30,7 +30,7 @@ use Rattle.search.proofs.walk.+walk.Tie.{close}
 
 -- the depth left
 abbrev μ-walk : Measures 4 walk-kinds.ps ℕ
-μ-walk κs a = a .1 .1 .1 .1 .1 .1 .1 .1 .0
+μ-walk κs a = a .1 .1 .1 .1 .1 .1 .1 .1 .1 .0
 
 abbrev walk-at : ℕ → In 4 walk-kinds.ps
 walk-at t = and 4 walk-kinds.ps (is 4 walk-kinds.ps μ-walk t) walk.Pre
@@ -42,12 +42,12 @@ abbrev calls : ℕ → walk-lts.Claims
 calls t = (suffixes-reads.Asked, suffixes-reads.Learnt, ask-once-reads.Asked, ask-once-reads.Learnt, read-head-reads.Asked, read-head-reads.Learnt, descend-reads.Asked, descend-reads.Learnt, walk-below t, walk.Post)
 
 abbrev Inv-loop : walk-lts.InvT-loop
-Inv-loop body kind pattern low high key₀ v p depth answer₀ room rows nodes common t₀ m₀ n₀ key answer t m n =
+Inv-loop body kind pattern literal low high key₀ v p depth answer₀ room rows nodes common t₀ m₀ n₀ key answer t m n =
     (m + length t ≤ rows + length body) × (n + length t ≤ nodes + length body) × (length key ≡ slotSize) × (length answer ≡ length answer₀)
     × Finding (BodyFound (asked pattern low high) kind depth (known v p key₀) body) (TriesFound (asked pattern low high) (over kind) depth (known v p key₀) t) v p room rows nodes answer₀ key₀ answer key m n
 
 abbrev μ-loop : walk-lts.MeasureT-loop
-μ-loop body kind pattern low high key₀ v p depth answer₀ room rows nodes common t₀ m₀ n₀ key answer t m n = length t
+μ-loop body kind pattern literal low high key₀ v p depth answer₀ room rows nodes common t₀ m₀ n₀ key answer t m n = length t
 
 -- the places of the first node lie in what is left
 inside : (t : ℕ) (c : walk-lts.After-own (calls t) (walk-at t) walk.Post Inv-loop μ-loop)
@@ -89,8 +89,8 @@ loop-again t c =
     (λ y. (
       omega (arith, y .11, y .4 .ensures .0 .0, c .t .given .2),
       omega (arith, y .12, y .4 .ensures .0 .1, c .t .given .2),
-      rw (y .9) (y .4 .kept .1 .1 .1 .1 .1 .0 ∙ key),
-      rw (y .10) (y .4 .kept .1 .1 .1 .1 .1 .1 .1 .1 .1 .0 ∙ l .inv .3),
+      rw (y .9) (y .4 .kept .1 .1 .1 .1 .1 .1 .0 ∙ key),
+      rw (y .10) (y .4 .kept .1 .1 .1 .1 .1 .1 .1 .1 .1 .1 .0 ∙ l .inv .3),
       rw (y .9, y .10, y .11, y .12) (siblings-in (l .inv .4) is _ _ _ _ e down (omega arith) (y .0 .taken) (y .4 .ensures .1)),
     ))
     (λ y. (
@@ -110,8 +110,8 @@ pub +walk-spec : {M : Type 1} → statement M
     Inv-loop
     μ-loop
     (λ c κs. let pre = c .before .before .before .before .before .before .before .pre .1 in record { formed = pre .formed; fits = pre .fits; fewRows = pre .fewRows; fewNodes = omega (arith, pre .fewNodes); buffer = pre .buffer; value = pre .value; path = pre .path })
-    (λ c. c .before .before .before .before .suffixes .kept .1 .1 .1 .1 .0)
-    (λ c. c .before .before .before .before .suffixes .kept .1 .1 .1 .1 .1 .1 .1 .0)
+    (λ c. c .before .before .before .before .suffixes .kept .1 .1 .1 .1 .1 .0)
+    (λ c. c .before .before .before .before .suffixes .kept .1 .1 .1 .1 .1 .1 .1 .1 .0)
     (λ c. ((c .before .before .before .before .suffixes .ensures .0, omega arith), body-suffixes (c .before .before .before .before .before .before .before .if1 .taken) (c .before .before .before .before .suffixes .ensures .1)))
     (λ c. ((omega arith, omega arith), body-low (c .before .if1 .left) (c .if2 .taken)))
     (λ c κs. search needs)

@@ -26,12 +26,12 @@ use Rattle.search.proofs.value.span_behind.Reads as span-behind-reads
 use Rattle.trie_read.proofs.suffixes.read_suffix.Reads as read-suffix-reads
 
 abbrev Inv-loop : tie.InvT-loop
-Inv-loop body pattern low high key₀ v p answer₀ room rows rest t₀ m₀ key answer t m =
+Inv-loop body pattern literal low high key₀ v p answer₀ room rows rest t₀ m₀ key answer t m =
     (m + length t ≤ rows + length body) × (length key ≡ slotSize) × (length answer ≡ length answer₀)
     × Finding (SuffixesFound (asked pattern low high) (known v p key₀) body) (SuffixesFound (asked pattern low high) (known v p key₀) t) v p room rows 0 answer₀ key₀ answer key m 0
 
 abbrev μ-loop : tie.MeasureT-loop
-μ-loop body pattern low high key₀ v p answer₀ room rows rest t₀ m₀ key answer t m = length t
+μ-loop body pattern literal low high key₀ v p answer₀ room rows rest t₀ m₀ key answer t m = length t
 
 abbrev calls : lts.Claims
 calls = (span-behind-reads.Asked, span-behind-reads.Learnt, read-suffix-reads.Asked, read-suffix-reads.Learnt, take-key-reads.Asked, take-key-reads.Learnt, put-reads.Asked, put-reads.Learnt)
