@@ -1,4 +1,5 @@
 // A search over all tries of a store.
+use matcher::reach::literal_prefix;
 use search::walk::Found;
 use search::walk::search_trie;
 use store::part::trie_part;
@@ -28,6 +29,7 @@ pub(crate) fn search_tries(
     ensures { λ r.
         ⌜ TriesSearched (asked (now (pattern .entry)) low high) (now (store .entry)) m l (l + 1) room (now (answer .entry)) (now (answer .exit)) (r .rows) (r .nodes) ⌝ }
 {
+    let literal = literal_prefix(pattern);
     let mut rows: usize = 0;
     let mut nodes: usize = 0;
     let mut k: usize = 0;
@@ -38,6 +40,7 @@ pub(crate) fn search_tries(
         let found = search_trie(
             &store[from..to],
             pattern,
+            literal,
             low,
             high,
             answer,
