@@ -2,35 +2,9 @@
 
 use crate::data::{Entry, Query};
 
-#[repr(C)]
-struct Reply {
-    number: u32,
-    first: u64,
-    second: u64,
-}
-
-extern "C" {
-    fn nivruska_setup(store: *mut u8, store_len: usize, m: u64, l: u64, tau: u64) -> Reply;
-    fn nivruska_add(
-        store: *mut u8,
-        store_len: usize,
-        path: *const u8,
-        path_len: usize,
-        value: u64,
-        reference: *const u8,
-        reference_len: usize,
-    ) -> Reply;
-    fn nivruska_search(
-        store: *const u8,
-        store_len: usize,
-        pattern: *const u8,
-        pattern_len: usize,
-        low: u64,
-        high: u64,
-        answer: *mut u8,
-        answer_len: usize,
-    ) -> Reply;
-}
+#[allow(dead_code)] // not every call is measured
+#[path = "../../bindings/rust/src/calls.rs"]
+mod calls;
 
 /// docs/STORE-FORMAT.md: where the small trie begins, and a node's bytes before its strings.
 const TRIES_AT: usize = 4096;
@@ -68,33 +42,18 @@ impl Store {
 
     pub fn setup(&mut self) {
         let Numbers { m, l, tau } = self.numbers;
-        let reply = unsafe { nivruska_setup(self.bytes.as_mut_ptr(), self.bytes.len(), m as u64, l as u64, tau as u64) };
+        let reply = calls::setup(&mut self.bytes, m as u64, l as u64, tau as u64);
         assert_eq!(reply.number, 0, "a setup turned down");
     }
 
     pub fn add(&mut self, entry: &Entry) {
-        let (store, path, reference) = (&mut self.bytes, &entry.path, &entry.reference);
-        let reply = unsafe {
-            nivruska_add(store.as_mut_ptr(), store.len(), path.as_ptr(), path.len(), entry.value, reference.as_ptr(), reference.len())
-        };
+        let reply = calls::add(&mut self.bytes, &entry.path, entry.value, &entry.reference);
         assert_eq!(reply.number, 0, "an addition turned down");
     }
 
     /// Rows and nodes entered.
     pub fn search(&self, query: &Query, answer: &mut [u8]) -> (usize, u64) {
-        let (store, pattern) = (&self.bytes, &query.pattern);
-        let reply = unsafe {
-            nivruska_search(
-                store.as_ptr(),
-                store.len(),
-                pattern.as_ptr(),
-                pattern.len(),
-                query.low,
-                query.high,
-                answer.as_mut_ptr(),
-                answer.len(),
-            )
-        };
+        let reply = calls::search(&self.bytes, &query.pattern, query.low, query.high, answer);
         assert_eq!(reply.number, 0, "a search turned down");
         (reply.first as usize, reply.second)
     }

@@ -42,7 +42,7 @@ plain-on l i h f a = record {
       let c = getD l i 0 in
       let was = a .passes k e in
       let one : fitsLabel (drop i l) ≡ first (eqb c) (fitsLabel (drop (i + 1) l)) =
-          ap fitsLabel (step l i h) ∙ fit-one (eqb star) eqb c (drop (i + 1) l) (ne-eqb star c (λ z. f (sym z))) in
+      ap fitsLabel (step l i h) ∙ fit-one (eqb star) eqb c (drop (i + 1) l) (ne-eqb star c (λ z. f (sym z))) in
       let g = firsts (eqb c) (fitsLabel (drop (i + 1) l)) (drop i k) (sym (ap (λ (t : List ℕ → Bool). t (drop i k)) one) ∙ was .1) in
       let same : c ≡ g .head = eqb-true c (g .head) (g .passes) in
       let next : take 1 (drop i k) ≡ take 1 (drop i l) = ap (take 1) (g .are) ∙ ap (λ (x : ℕ). x ∷ []) (sym same) ∙ sym (ap (take 1) (step l i h)) in
@@ -75,9 +75,10 @@ same-label q t n d a e =
       bytes = in-up t n long ∙ was .0 ∙ sym (in-up q n (a .in-label));
       rest = λ h.
           let none-left : length (drop n w) ≡ 0 = fits-none (drop n w) (sym (ap (λ (l : List ℕ). fitsLabel l (drop n w)) (ap (λ (m : ℕ). drop m u) h ∙ drop-length u)) ∙ was .1) in
-          let all : length w ≡ n = let m = length-drop n w in omega arith in
-          (subst (λ (m : ℕ). Begun (drop m t)) all (begun-up t),
-           sym (ap₂ fitLabels (drop-up q ∙ ap (λ (m : ℕ). labelsOf (drop m q)) (sym h)) (drop-up t ∙ ap (λ (m : ℕ). labelsOf (drop m t)) all)) ∙ others);
+          let all : length w ≡ n = let m = length-drop n w in omega arith in (
+            subst (λ (m : ℕ). Begun (drop m t)) all (begun-up t),
+            sym (ap₂ fitLabels (drop-up q ∙ ap (λ (m : ℕ). labelsOf (drop m q)) (sym h)) (drop-up t ∙ ap (λ (m : ℕ). labelsOf (drop m t)) all)) ∙ others,
+          );
     }
   where
     in-up : (t : List ℕ) (n : ℕ) → n ≤ length (upToSlash t) → take n t ≡ take n (upToSlash t)
@@ -115,12 +116,12 @@ next-label pattern path a n l h d p b e =
     let was = h .leads path b e in
     let pat : drop a pattern ≡ slash ∷ q = slash-first (drop a pattern) (λ z. let m = length-drop a pattern in omega arith) (h .begun) ∙ ap (λ (s : List ℕ). slash ∷ s) (drop-drop 1 a pattern) in
     let fits : fitLabels (upToSlash q ∷ labelsOf q) (labelsOf (drop a path)) ≡ true = sym (ap (λ (s : List ℕ). fitLabels (labelsOf s) (labelsOf (drop a path))) pat) ∙ was .2 in
-    let way : drop a path ≡ slash ∷ t = slash-first (drop a path) (some-left (upToSlash q) (labelsOf q) (drop a path) d fits) (was .1) ∙ ap (λ (s : List ℕ). slash ∷ s) (drop-drop 1 a path) in
-    let same = same-label q t n d p (sym (ap (λ (s : List ℕ). fitLabels (upToSlash q ∷ labelsOf q) (labelsOf s)) way) ∙ fits) in
-    let left : drop n t ≡ drop (a + suc n) path = sym (ap (drop (suc n)) way) ∙ drop-drop (suc n) a path in
+    let under : drop a path ≡ slash ∷ t = slash-first (drop a path) (some-left (upToSlash q) (labelsOf q) (drop a path) d fits) (was .1) ∙ ap (λ (s : List ℕ). slash ∷ s) (drop-drop 1 a path) in
+    let same = same-label q t n d p (sym (ap (λ (s : List ℕ). fitLabels (upToSlash q ∷ labelsOf q) (labelsOf s)) under) ∙ fits) in
+    let left : drop n t ≡ drop (a + suc n) path = sym (ap (drop (suc n)) under) ∙ drop-drop (suc n) a path in
     let over : drop n q ≡ drop (a + suc n) pattern = sym (ap (drop (suc n)) pat) ∙ drop-drop (suc n) a pattern in
     record {
-      bytes = take-add a (suc n) path ∙ ap₂ _++_ (was .0) (ap (take (suc n)) way ∙ ap (λ (s : List ℕ). slash ∷ s) (same .bytes) ∙ sym (ap (take (suc n)) pat)) ∙ sym (take-add a (suc n) pattern);
+      bytes = take-add a (suc n) path ∙ ap₂ _++_ (was .0) (ap (take (suc n)) under ∙ ap (λ (s : List ℕ). slash ∷ s) (same .bytes) ∙ sym (ap (take (suc n)) pat)) ∙ sym (take-add a (suc n) pattern);
       rest = λ z. let g = same .rest z in (subst Begun left (g .0), sym (ap₂ (λ (x y : List ℕ). fitLabels (labelsOf x) (labelsOf y)) over left) ∙ g .1);
     }
 

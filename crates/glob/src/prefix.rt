@@ -52,7 +52,7 @@ pub fn differs(a: &[u8], b: &[u8]) -> bool
     let mut i = 0;
     while i < a.len() {
         if b.len() <= i {
-            return false;
+            return false; // the other has no byte there
         }
         if a[i] != b[i] {
             return true;

@@ -42,9 +42,9 @@ module _ (pattern known s : List ℕ) (n : ℕ) (h : LiteralPrefix pattern n) (l
       let long : n ≤ length path = let m = length-take n path in omega arith in
       let seam : p + k ≡ n = omega arith in
       let read : take n (path ++ (endByte ∷ [])) ≡ known ++ take k (s ++ c .more) =
-          ap (take n) (sym (c .goes-on) ∙ append-assoc known s (c .more)) ∙ ap (λ (i : ℕ). take i (known ++ (s ++ c .more))) (sym seam) ∙ take-append-add known (s ++ c .more) k in
+      ap (take n) (sym (c .goes-on) ∙ append-assoc known s (c .more)) ∙ ap (λ (i : ℕ). take i (known ++ (s ++ c .more))) (sym seam) ∙ take-append-add known (s ++ c .more) k in
       let both : take p pattern ++ left ≡ known ++ take k (s ++ c .more) =
-          sym (take-add p k pattern) ∙ ap (λ (i : ℕ). take i pattern) seam ∙ sym same ∙ sym (take-append-le n path (endByte ∷ []) long) ∙ read in
+      sym (take-add p k pattern) ∙ ap (λ (i : ℕ). take i pattern) seam ∙ sym same ∙ sym (take-append-le n path (endByte ∷ []) long) ∙ read in
       let is : left ≡ take k (s ++ c .more) = sym (drop-at (take p pattern) left p (length-take-le p pattern (omega (arith, h .in-pattern)))) ∙ ap (drop p) both ∙ drop-at known (take k (s ++ c .more)) p refl in
       ap (λ (t : List ℕ). differs t s) is ∙ alike k s (c .more)
 

@@ -81,7 +81,7 @@ pub fn ruled_out(pattern: &[u8], literal: usize, p: usize, s: &[u8]) -> bool
     ensures { λ r. ⌜ RuledOut (now (pattern .entry)) literal p (now (s .entry)) r ⌝ }
 {
     if literal <= p {
-        return false;
+        return false; // the pattern may be wild there
     }
     if pattern.len() < literal {
         return false;

@@ -173,7 +173,14 @@ fn path_answer(pattern: &[u8], literal: usize, key: &mut [u8], p: usize, s: &[u8
 }
 
 // The answer of both dimensions, where the value is answered and the path has the bytes s more: it is asked where the value is no mismatch.
-fn ask_path(value: Answer, pattern: &[u8], literal: usize, key: &mut [u8], p: usize, s: &[u8]) -> Answer
+fn ask_path(
+    value: Answer,
+    pattern: &[u8],
+    literal: usize,
+    key: &mut [u8],
+    p: usize,
+    s: &[u8],
+) -> Answer
     requires { ⌜ (isFine (patternForm (now pattern)) ≡ true) × LiteralPrefix (now pattern) literal ⌝ }
     requires { ⌜ (length (now key) ≡ slotSize) × (p + length (now s) ≤ endedLimit + 1) ⌝ }
     ensures { λ r. ⌜ r ≡ both value (reachOf (now (pattern .entry)) (region (now (key .entry)) pathAt p ++ now (s .entry))) ⌝ }
@@ -259,7 +266,20 @@ pub(crate) fn descend(
     requires { ⌜ InCommon (asked (now pattern) low high) kind v p (now key) common ⌝ }
     ensures { λ r. ⌜ Descended (asked (now (pattern .entry)) low high) kind v p (now (t .entry)) path body (now (key .entry)) (now (key .exit)) r ⌝ }
 {
-    if admits(kind, pattern, literal, low, high, key, v, p, t, path, body, common) {
+    if admits(
+        kind,
+        pattern,
+        literal,
+        low,
+        high,
+        key,
+        v,
+        p,
+        t,
+        path,
+        body,
+        common,
+    ) {
         return enter(key, v, p, t, path, body);
     }
     false

@@ -58,7 +58,18 @@ fn suffixes(
     loop {
         match read_suffix(t) {
             Tail::At { path, next } => {
-                if take_key(key, v, p, t, path, next, pattern, literal, rest.from, rest.to) {
+                if take_key(
+                    key,
+                    v,
+                    p,
+                    t,
+                    path,
+                    next,
+                    pattern,
+                    literal,
+                    rest.from,
+                    rest.to,
+                ) {
                     put(answer, 0, m, room, &key[0..ROW_SIZE]);
                     m += 1;
                 }
@@ -98,7 +109,19 @@ fn walk(
         ⌜ Searched (BodyFound (asked (now (pattern .entry)) low high) kind depth (known v p (now (key .entry))) (now (body .entry))) v p room rows nodes (now (answer .entry)) (now (key .entry)) (now (answer .exit)) (now (key .exit)) (r .rows) (r .nodes) ⌝ }
 {
     if kind == 0 {
-        let m = suffixes(body, pattern, literal, low, high, key, v, p, answer, room, rows);
+        let m = suffixes(
+            body,
+            pattern,
+            literal,
+            low,
+            high,
+            key,
+            v,
+            p,
+            answer,
+            room,
+            rows,
+        );
         return Found { rows: m, nodes };
     }
     if depth == 0 {
@@ -116,7 +139,20 @@ fn walk(
                 body: start,
                 next,
             } => {
-                if descend(key, v, p, t, path, start, kind, pattern, literal, low, high, common) {
+                if descend(
+                    key,
+                    v,
+                    p,
+                    t,
+                    path,
+                    start,
+                    kind,
+                    pattern,
+                    literal,
+                    low,
+                    high,
+                    common,
+                ) {
                     let found = walk(
                         &t[start..next],
                         own,

@@ -17,7 +17,8 @@ use Rattle.search.specs.Asked.{asked}
 use Rattle.search.specs.Steps.{over}
 use Rattle.search.specs.Searches.{TriesFound, BodyFound}
 use Rattle.search.proofs.Steps.{descended-room, common-kept}
-use Rattle.search.proofs.Finding.{Finding, finding-from, finding-end, tries-end, tries-bad, siblings-in, siblings-past, body-suffixes, body-low}
+use Rattle.search.proofs.Finding.{Finding, finding-from, finding-end}
+use Rattle.search.proofs.Siblings.{tries-end, tries-bad, siblings-in, siblings-past, body-suffixes, body-low}
 use Rattle.search.proofs.walk.walk.Reads as walk
 use Rattle.search.proofs.walk.walk.Kinds as walk-kinds
 use Rattle.search.proofs.walk.+walk.Lts-walk as walk-lts
