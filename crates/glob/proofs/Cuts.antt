@@ -11,7 +11,7 @@ use borrow.Author.Tests.{eq-eqb, ne-eqb, eqb-true}
 use Rattle.buffer.specs.Lists.{none}
 use Rattle.glob.specs.Bytes.{slash}
 use Rattle.glob.specs.Labels.{upToSlash, labelsOf, deep}
-use Rattle.glob.specs.Fit.{afterSome, first, fitsLabel, fitLabels}
+use Rattle.glob.specs.Fit.{afterSome, first, fit, fitsLabel, fitLabels}
 use Rattle.glob.specs.Inner.{Says, Begun, Cut}
 use Rattle.glob.specs.declared.fit.Trial.{Trial}
 use Rattle.glob.proofs.Parts.{tail-part, no-items, front, back, back-back, length-back, step}
@@ -93,6 +93,10 @@ cut-law (c ∷ t) r f b h l =
 
 pub no-labels : (s : List ℕ) → length s ≡ 0 → labelsOf s ≡ []
 no-labels s e = ap labelsOf (no-items s e)
+
+pub labels-end-law : (p : List ℕ) → length p ≡ 0 → fitLabels (labelsOf p) ≡ none
+unfolding fit
+labels-end-law p e = ap fitLabels (no-labels p e)
 
 pub some-labels : (s : List ℕ) → (length s ≡ 0 → ⊥) → Begun s → none (labelsOf s) ≡ false
 some-labels [] f b = absurd (f refl)

@@ -16,8 +16,8 @@ use Rattle.glob.specs.Fit.{fit, fitsLabel, fitLabels}
 use Rattle.glob.specs.Inner.{Says, Begun, Cut}
 use Rattle.glob.specs.declared.fit.Trial.the-variants.{Fits, Never}
 use Rattle.glob.proofs.Parts.{front, back, back-all, back-back}
-use Rattle.glob.proofs.Trials.{Tried, tried-none, now-some, never-twice}
-use Rattle.glob.proofs.Cuts.{no-labels, some-labels, begun-next, cut-law, cut-falls, deep-law, one-law, tried-cut, first-cut, first-not}
+use Rattle.glob.proofs.Trials.{Tried, tried-none, some-none, now-some, never-twice}
+use Rattle.glob.proofs.Cuts.{no-labels, labels-end-law, some-labels, begun-next, cut-law, cut-falls, deep-law, one-law, tried-cut, first-cut, first-not}
 use Rattle.glob.proofs.fit.descend.Reads as descend
 use Rattle.glob.proofs.fit.descend.Kinds as descend-kinds
 use Rattle.glob.proofs.fit.+descend+labels.Lts-descend as descend-lts
@@ -61,37 +61,40 @@ descend-Inv-loop pattern path b₀ b = (b ≤ length path + 1) × Begun (back pa
 abbrev descend-μ-loop : descend-lts.MeasureT-loop
 descend-μ-loop pattern path b₀ b = length path + 1 - b
 
+descend-returns : (t : ℕ) → descend-lts.Need-returns (descend-calls t) (descend-at t) descend.Post descend-Inv-loop descend-μ-loop
+descend-returns t c = rw (labels-end-law (c .before .before .before .args .pattern .now) (c .if1 .taken)) (some-none (labelsOf (c .before .before .before .args .path .now)))
+
 descend-loop-holds : (t : ℕ) → descend-lts.Need-loop-holds (descend-calls t) (descend-at t) descend.Post descend-Inv-loop descend-μ-loop
 descend-loop-holds t c =
-    let s = c .before .before .args .path .now in
-    let k = fitLabels (labelsOf (c .before .before .args .pattern .now)) in
+    let s = c .before .before .before .args .path .now in
+    let k = fitLabels (labelsOf (c .before .before .before .args .pattern .now)) in
     let whole = back-all s in
-    (search needs, subst Begun (sym whole) (c .before .before .pre .1 .1), tried-none k (length s) (labelsOf (back s 0)) (labelsOf s) (ap labelsOf whole))
-
-descend-returns : (t : ℕ) → descend-lts.Need-returns (descend-calls t) (descend-at t) descend.Post descend-Inv-loop descend-μ-loop
-descend-returns t c =
-    let k = fitLabels (labelsOf (c .before .before .before .before .before .before .before .before .before .before .args .pattern .now)) in
-    let l = labelsOf (back (c .before .before .before .before .before .before .before .before .before .before .args .path .now) (c .before .before .before .before .before .before .before .loop .b)) in
-    c .before .before .before .before .before .before .before .loop .inv .2 .0 (omega (arith, c .before .before .before .before .before .before .loop-test .taken)) Fits (now-some k l (subst (Says k l) (c .enum-told .given .1) (c .before .before .labels .ensures)))
+    (search needs, subst Begun (sym whole) (c .before .before .before .pre .1 .1), tried-none k (length s) (labelsOf (back s 0)) (labelsOf s) (ap labelsOf whole))
 
 descend-returns-2 : (t : ℕ) → descend-lts.Need-returns-2 (descend-calls t) (descend-at t) descend.Post descend-Inv-loop descend-μ-loop
 descend-returns-2 t c =
-    let k = fitLabels (labelsOf (c .before .before .before .before .before .before .before .before .before .before .args .pattern .now)) in
-    let l = labelsOf (back (c .before .before .before .before .before .before .before .before .before .before .args .path .now) (c .before .before .before .before .before .before .before .loop .b)) in
+    let k = fitLabels (labelsOf (c .before .before .before .before .before .before .before .before .before .before .before .args .pattern .now)) in
+    let l = labelsOf (back (c .before .before .before .before .before .before .before .before .before .before .before .args .path .now) (c .before .before .before .before .before .before .before .loop .b)) in
+    c .before .before .before .before .before .before .before .loop .inv .2 .0 (omega (arith, c .before .before .before .before .before .before .loop-test .taken)) Fits (now-some k l (subst (Says k l) (c .enum-told .given .1) (c .before .before .labels .ensures)))
+
+descend-returns-3 : (t : ℕ) → descend-lts.Need-returns-3 (descend-calls t) (descend-at t) descend.Post descend-Inv-loop descend-μ-loop
+descend-returns-3 t c =
+    let k = fitLabels (labelsOf (c .before .before .before .before .before .before .before .before .before .before .before .args .pattern .now)) in
+    let l = labelsOf (back (c .before .before .before .before .before .before .before .before .before .before .before .args .path .now) (c .before .before .before .before .before .before .before .loop .b)) in
     c .before .before .before .before .before .before .before .loop .inv .2 .0 (omega (arith, c .before .before .before .before .before .before .loop-test .taken)) Never (never-twice k l (subst (Says k l) (c .enum-told2 .given .1) (c .before .before .labels .ensures)))
 
 descend-loop-again : (t : ℕ) → descend-lts.Need-loop-again (descend-calls t) (descend-at t) descend.Post descend-Inv-loop descend-μ-loop
 descend-loop-again t c =
-    let s = c .before .before .before .before .before .before .before .before .before .before .args .path .now in
+    let s = c .before .before .before .before .before .before .before .before .before .before .before .args .path .now in
     let b = c .before .before .before .before .before .before .before .loop .b in
     let inv = c .before .before .before .before .before .before .before .loop .inv in
     let next = c .before .before .before .before .next-slash in
-    let k = fitLabels (labelsOf (c .before .before .before .before .before .before .before .before .before .before .args .pattern .now)) in
+    let k = fitLabels (labelsOf (c .before .before .before .before .before .before .before .before .before .before .before .args .pattern .now)) in
     let no = subst (Says k (labelsOf (back s b))) (c .enum-told3 .given .1) (c .before .before .labels .ensures) in
     (search needs, subst Begun (back-back s b (next .result)) (begun-next (back s b) 1 (next .result) (next .ensures .0)), tried-cut k s b (next .result) (omega (arith, c .before .before .before .before .before .before .loop-test .taken)) (inv .1) (next .ensures .0) (next .ensures .1) no (inv .2))
 
-descend-returns-3 : (t : ℕ) → descend-lts.Need-returns-3 (descend-calls t) (descend-at t) descend.Post descend-Inv-loop descend-μ-loop
-descend-returns-3 t c = never-twice (fitLabels (labelsOf (c .before .before .before .before .args .pattern .now))) (labelsOf (c .before .before .before .before .args .path .now)) (c .before .loop .inv .2 .1 (omega (arith, c .loop-test .left)))
+descend-returns-4 : (t : ℕ) → descend-lts.Need-returns-4 (descend-calls t) (descend-at t) descend.Post descend-Inv-loop descend-μ-loop
+descend-returns-4 t c = never-twice (fitLabels (labelsOf (c .before .before .before .before .before .args .pattern .now))) (labelsOf (c .before .before .before .before .before .args .path .now)) (c .before .loop .inv .2 .1 (omega (arith, c .loop-test .left)))
 
 -- the first labels, cut off
 labels-cut : (t : ℕ) (c : labels-lts.After-next-slash (labels-calls t) (labels-at t) labels.Post) → Cut (c .before .before .before .before .args .pattern .now) (c .next-slash .result)
@@ -169,6 +172,7 @@ pub +descend+labels-spec : {M : Type 1} → statement M
     descend.Post
     descend-Inv-loop
     descend-μ-loop
+    (descend-returns t)
     (descend-loop-holds t)
     (λ c. search needs)
     (λ c. search needs)
@@ -180,13 +184,13 @@ pub +descend+labels-spec : {M : Type 1} → statement M
     (λ c. search needs)
     (λ c κs. search needs)
     (λ c. search needs)
-    (descend-returns t)
-    (λ c. search needs)
     (descend-returns-2 t)
+    (λ c. search needs)
+    (descend-returns-3 t)
     (λ c. search needs)
     (λ c. search needs)
     (descend-loop-again t)
-    (descend-returns-3 t))
+    (descend-returns-4 t))
     λ t. labels-lts.spec (labels-calls t)
     (labels-at t)
     labels.Post
