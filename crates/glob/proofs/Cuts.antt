@@ -91,6 +91,16 @@ cut-law (c ∷ t) r f b h l =
       begun = rw over (begun-up t);
     }
 
+-- the label that begins at a ends at r
+pub label-at : (s : List ℕ) (a r : ℕ) → a < length s → Begun (drop a s) → r ≡ a + 1 + length (upToSlash (drop (a + 1) s)) → labelsOf (drop a s) ≡ take (r - (a + 1)) (drop (a + 1) s) ∷ labelsOf (drop r s)
+label-at s a r l g h =
+    let t = drop (a + 1) s in
+    let here : Begun (getD s a 0 ∷ t) = subst Begun (step s a l) g in
+    let whole : labelsOf (drop a s) ≡ upToSlash t ∷ labelsOf t = ap labelsOf (step s a l) ∙ rw (eq-eqb (getD s a 0) slash (here (λ z. absurd (omega arith)))) in
+    let less : r - (a + 1) ≡ length (upToSlash t) = omega arith in
+    let over : drop r s ≡ drop (length (upToSlash t)) t = rw (h, ← drop-drop (length (upToSlash t)) (a + 1) s) in
+    whole ∙ rw (less, over, take-up t, ← drop-up t)
+
 pub no-labels : (s : List ℕ) → length s ≡ 0 → labelsOf s ≡ []
 no-labels s e = ap labelsOf (no-items s e)
 
