@@ -4,6 +4,7 @@ use crate::bytes::STAR;
 use crate::split::is_deep;
 use crate::split::next_slash;
 ghost use mathlib.Core.Path.{_≡_};
+ghost use mathlib.Core.Bool.{true, false};
 ghost use Prim.Native.Nat.{_+_, _≤_};
 ghost use lib.ListN.{length};
 ghost use Rattle.glob.specs.Labels.{labelsOf};
@@ -118,6 +119,23 @@ pub fn label_fits(p: &[u8], s: &[u8]) -> bool
     is_fit(label(p, s))
 }
 
+// Do the first labels begin with different bytes, and the pattern's with no `*`? Then it does not fit, and no label has to be cut off.
+fn begin_unlike(pattern: &[u8], path: &[u8]) -> bool
+    requires { ⌜ Begun (now pattern) × Begun (now path) ⌝ }
+    ensures { λ r. ⌜ (r ≡ true → fitLabels (labelsOf (now (pattern .entry))) (labelsOf (now (path .entry))) ≡ false) ⌝ }
+{
+    if pattern.len() < 2 {
+        return false;
+    }
+    if path.len() < 2 {
+        return false;
+    }
+    if pattern[1] == STAR {
+        return false;
+    }
+    pattern[1] != path[1]
+}
+
 // Label matching: tries the rest of a path against the pattern that remains.
 fn labels(pattern: &[u8], path: &[u8]) -> Trial
     requires { ⌜ Begun (now pattern) × Begun (now path) ⌝ }
@@ -128,6 +146,9 @@ fn labels(pattern: &[u8], path: &[u8]) -> Trial
             return Trial::Fits;
         }
         return Trial::Fails; // but a `**` before may take more labels
+    }
+    if begin_unlike(pattern, path) {
+        return Trial::Fails;
     }
     let a = next_slash(pattern, 1);
     if is_deep(&pattern[1..a]) {
