@@ -1,7 +1,7 @@
 -- The first label of a list, cut off: `Cut`, and what the laws of `fit` say under it. Assumes nothing.
 use mathlib.Core.Path.{_≡_, refl, sym, ap, subst, _∙_}
 use mathlib.Core.List.{List, [], _∷_}
-use mathlib.Core.Bool.{Bool, true, false, cond}
+use mathlib.Core.Bool.{Bool, true, false, cond, _&&_}
 use Prim.Native.Nat.{ℕ, suc, _+_, _-_, _*_, _<_, _≤_}
 use native.Mathlib.Omega.{arith}
 use lib.ListN.{length, take, drop, getD, drop-of-length-le}
@@ -9,13 +9,14 @@ use lib.Seq.{drop-drop}
 use lib.Dec.{eqb}
 use borrow.Author.Tests.{eq-eqb, ne-eqb, eqb-true}
 use Rattle.buffer.specs.Lists.{none}
-use Rattle.glob.specs.Bytes.{slash}
+use Rattle.glob.specs.Bytes.{slash, star}
 use Rattle.glob.specs.Labels.{upToSlash, labelsOf, deep}
-use Rattle.glob.specs.Fit.{afterSome, first, fitsLabel, fitLabels}
+use Rattle.glob.specs.Fit.{afterSome, first, fit, fitsLabel, fitLabels}
 use Rattle.glob.specs.Inner.{Says, Begun, Cut}
 use Rattle.glob.specs.declared.fit.Trial.{Trial}
+use Rattle.buffer.proofs.Tests.{and-false}
 use Rattle.glob.proofs.Parts.{tail-part, no-items, front, back, back-back, length-back, step}
-use Rattle.glob.proofs.Trials.{fit-wild, fit-one, Tried, tried-on, first-on, first-off}
+use Rattle.glob.proofs.Trials.{fit-wild, fit-one, byte-law, end-law, Tried, tried-on, first-on, first-off}
 
 -- what stands up to the next `/`, at an index
 slash-here : (s : List ℕ) (c : ℕ) → c ≡ slash → upToSlash (c ∷ s) ≡ []
@@ -91,8 +92,22 @@ cut-law (c ∷ t) r f b h l =
       begun = rw over (begun-up t);
     }
 
+-- the label that begins at a ends at r
+pub label-at : (s : List ℕ) (a r : ℕ) → a < length s → Begun (drop a s) → r ≡ a + 1 + length (upToSlash (drop (a + 1) s)) → labelsOf (drop a s) ≡ take (r - (a + 1)) (drop (a + 1) s) ∷ labelsOf (drop r s)
+label-at s a r l g h =
+    let t = drop (a + 1) s in
+    let here : Begun (getD s a 0 ∷ t) = subst Begun (step s a l) g in
+    let whole : labelsOf (drop a s) ≡ upToSlash t ∷ labelsOf t = ap labelsOf (step s a l) ∙ rw (eq-eqb (getD s a 0) slash (here (λ z. absurd (omega arith)))) in
+    let less : r - (a + 1) ≡ length (upToSlash t) = omega arith in
+    let over : drop r s ≡ drop (length (upToSlash t)) t = rw (h, ← drop-drop (length (upToSlash t)) (a + 1) s) in
+    whole ∙ rw (less, over, take-up t, ← drop-up t)
+
 pub no-labels : (s : List ℕ) → length s ≡ 0 → labelsOf s ≡ []
 no-labels s e = ap labelsOf (no-items s e)
+
+pub labels-end-law : (p : List ℕ) → length p ≡ 0 → fitLabels (labelsOf p) ≡ none
+unfolding fit
+labels-end-law p e = ap fitLabels (no-labels p e)
 
 pub some-labels : (s : List ℕ) → (length s ≡ 0 → ⊥) → Begun s → none (labelsOf s) ≡ false
 some-labels [] f b = absurd (f refl)
@@ -126,3 +141,29 @@ first-cut f k s b r h e y =
 
 pub first-not : (f : List ℕ → Bool) (k : List (List ℕ) → Bool) (s : List ℕ) (b : ℕ) → Cut s b → f (front s b) ≡ false → first f k (labelsOf s) ≡ false
 first-not f k s b h e = subst (λ (l : List (List ℕ)). first f k l ≡ false) (sym (h .labels)) (first-off k f (front s b) (labelsOf (back s b)) e)
+
+-- labels that begin with different bytes, the pattern's with no `*`
+unlike-fits : (c d : ℕ) (p s : List ℕ) → (c ≡ star → ⊥) → (c ≡ d → ⊥) → fitsLabel (upToSlash (c ∷ p)) (upToSlash (d ∷ s)) ≡ false
+unlike-fits c d p s w n = go (eqb c slash) refl (eqb d slash) refl
+  where
+    go : (a : Bool) → eqb c slash ≡ a → (b : Bool) → eqb d slash ≡ b → fitsLabel (cond a [] (c ∷ upToSlash p)) (cond b [] (d ∷ upToSlash s)) ≡ false
+    go true e true g = absurd (n (eqb-true c slash e ∙ sym (eqb-true d slash g)))
+    go true e false g = rw (end-law [] refl)
+    go false e true g = rw (byte-law (c ∷ upToSlash p) (λ z. absurd (omega arith)) w)
+    go false e false g = rw (byte-law (c ∷ upToSlash p) (λ z. absurd (omega arith)) w, ne-eqb c d n)
+
+plain-not-deep : (c : ℕ) (p : List ℕ) → (c ≡ star → ⊥) → deep (upToSlash (c ∷ p)) ≡ false
+plain-not-deep c p w = go (eqb c slash)
+  where
+    go : (a : Bool) → deep (cond a [] (c ∷ upToSlash p)) ≡ false
+    go true = refl
+    go false = and-false (eqb (length (c ∷ upToSlash p)) 2) (eqb c star && eqb (getD (c ∷ upToSlash p) 1 0) star) (rw (ne-eqb c star w))
+
+pub unlike-law : (p s : List ℕ) → 1 < length p → 1 < length s → Begun p → Begun s → (getD p 1 0 ≡ star → ⊥) → (getD p 1 0 ≡ getD s 1 0 → ⊥) → fitLabels (labelsOf p) (labelsOf s) ≡ false
+unlike-law [] s l m f g w n = absurd (omega arith)
+unlike-law (x ∷ []) s l m f g w n = absurd (omega arith)
+unlike-law (x ∷ c ∷ p) [] l m f g w n = absurd (omega arith)
+unlike-law (x ∷ c ∷ p) (y ∷ []) l m f g w n = absurd (omega arith)
+unlike-law (x ∷ c ∷ p) (y ∷ d ∷ s) l m f g w n =
+    rw (eq-eqb x slash (f (λ z. absurd (omega arith))), eq-eqb y slash (g (λ z. absurd (omega arith))), fit-one deep fitsLabel (upToSlash (c ∷ p)) (labelsOf (c ∷ p)) (plain-not-deep c p w))
+    (first-off (fitLabels (labelsOf (c ∷ p))) (fitsLabel (upToSlash (c ∷ p))) (upToSlash (d ∷ s)) (labelsOf (d ∷ s)) (unlike-fits c d p s w n))

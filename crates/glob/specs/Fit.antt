@@ -1,10 +1,12 @@
 -- What it is to fit a pattern (Definition 3). One definition, `fit`, serves twice: for the bytes of a label, with `*`, and for the labels of a path, with `**`.
--- Assumes nothing: these are definitions.
+-- Assumes nothing: these are definitions, and some worked cases.
 use Prim.Native.Nat.{ℕ}
-use mathlib.Core.List.{List, [], _∷_}
-use mathlib.Core.Bool.{Bool, false, cond, _&&_, _||_}
+use mathlib.Core.Path.{_≡_, refl}
+use mathlib.Core.List.{List, [], _∷_, map}
+use mathlib.Core.Bool.{Bool, true, false, cond, _&&_, _||_}
 use lib.Dec.{eqb}
 use Rattle.buffer.specs.Lists.{none}
+use Rattle.buffer.specs.Text.{text}
 use Rattle.glob.specs.Bytes.{star}
 use Rattle.glob.specs.Labels.{labelsOf, deep}
 
@@ -34,3 +36,12 @@ fitLabels = fit deep fitsLabel
 -- a path fits a pattern, by its labels
 abbrev pub fitsPath : List ℕ → List ℕ → Bool
 fitsPath pattern path = fitLabels (labelsOf pattern) (labelsOf path)
+
+-- worked: a `*` takes zero or more bytes inside one label, and so no `/`, also behind `**`. The cases that document 01 numbers are in crate matcher.
+pub worked-star : map (fitsPath (text "/a*")) (text "/a" ∷ text "/ab" ∷ text "/a/b" ∷ []) ≡ true ∷ true ∷ false ∷ []
+unfolding fit
+worked-star = refl
+
+pub worked-deep : map (fitsPath (text "/**/a*c")) (text "/ac" ∷ text "/north/abc" ∷ text "/north/a/c" ∷ []) ≡ true ∷ true ∷ false ∷ []
+unfolding fit
+worked-deep = refl

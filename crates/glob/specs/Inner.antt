@@ -1,5 +1,5 @@
 -- What the functions below the public ones promise. No public contract cites these.
-use Prim.Native.Nat.{ℕ, _-_, _≤_}
+use Prim.Native.Nat.{ℕ, _+_, _-_, _<_, _≤_}
 use mathlib.Core.Path.{_≡_}
 use mathlib.Core.List.{List, _∷_}
 use mathlib.Core.Bool.{Bool, true, false}
@@ -31,6 +31,12 @@ pub record Alike (p s : List ℕ) (r : ℕ) : Type 0 where
 pub record Plain (l : List ℕ) (n : ℕ) : Type 0 where
   pub in-label : n ≤ length l
   pub passes : (k : List ℕ) → fitsLabel l k ≡ true → (take n k ≡ take n l) × (fitsLabel (drop n l) (drop n k) ≡ true)
+
+-- from place `from` of s up to place r, which is at most one past the end, what is left of s fits p, a label of a pattern, nowhere
+pub record Skipped (p s : List ℕ) (from r : ℕ) : Type 0 where
+  pub low : from ≤ r
+  pub high : r ≤ length s + 1
+  pub no-fit : (i : ℕ) → from ≤ i → i < r → fitsLabel p (take (length s - i) (drop i s)) ≡ false
 
 -- a list that begins with `/`, if it is not empty
 abbrev pub Begun : List ℕ → Type 0

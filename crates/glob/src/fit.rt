@@ -4,9 +4,12 @@ use crate::bytes::STAR;
 use crate::split::is_deep;
 use crate::split::next_slash;
 ghost use mathlib.Core.Path.{_≡_};
+ghost use mathlib.Core.Bool.{true, false};
+ghost use Prim.Native.Nat.{_+_, _≤_};
+ghost use lib.ListN.{length};
 ghost use Rattle.glob.specs.Labels.{labelsOf};
 ghost use Rattle.glob.specs.Fit.{afterSome, fitsLabel, fitLabels, fitsPath};
-ghost use Rattle.glob.specs.Inner.{Says, isFit, Alike, Begun};
+ghost use Rattle.glob.specs.Inner.{Says, isFit, Alike, Skipped, Begun};
 
 // `Never`: it fails now, and also once any of the first bytes (or labels) are taken away.
 pub(crate) enum Trial {
@@ -45,6 +48,26 @@ fn alike(p: &[u8], s: &[u8]) -> usize
     i
 }
 
+// The next place, from one on, at which the rest of a label may fit a label of a pattern: it begins with the same byte, or the pattern with
+// `*`. Where there is none, one past the end.
+fn next_try(p: &[u8], s: &[u8], from: usize) -> usize
+    requires { ⌜ (length (now p) ≡ 0 → ⊥) × (from ≤ length (now s) + 1) ⌝ }
+    ensures { λ r. ⌜ Skipped (now (p .entry)) (now (s .entry)) from r ⌝ }
+{
+    let c = p[0];
+    if c == STAR {
+        return from;
+    }
+    let mut i = from;
+    while i < s.len() {
+        if s[i] == c {
+            return i;
+        }
+        i += 1;
+    }
+    s.len() + 1
+}
+
 // Tries a label against a label of a pattern. Bytes that are alike are passed over in one turn.
 fn label(p: &[u8], s: &[u8]) -> Trial
     ensures { λ r. ⌜ Says (fitsLabel (now (p .entry))) (now (s .entry)) r ⌝ }
@@ -72,14 +95,17 @@ fn label(p: &[u8], s: &[u8]) -> Trial
 fn after_star(p: &[u8], s: &[u8]) -> Trial
     ensures { λ r. ⌜ Says (afterSome (fitsLabel (now (p .entry)))) (now (s .entry)) r ⌝ }
 {
-    let mut i = 0;
+    if p.len() == 0 {
+        return Trial::Fits; // a last `*` takes all bytes that are left
+    }
+    let mut i = next_try(p, s, 0);
     while i <= s.len() {
         let r = label(p, &s[i..]);
         match r {
             Trial::Fits => return Trial::Fits,
             Trial::Never => return Trial::Never,
             Trial::Fails => {
-                i += 1;
+                i = next_try(p, s, i + 1);
             }
         }
     }
@@ -93,6 +119,23 @@ pub fn label_fits(p: &[u8], s: &[u8]) -> bool
     is_fit(label(p, s))
 }
 
+// Do the first labels begin with different bytes, and the pattern's with no `*`? Then it does not fit, and no label has to be cut off.
+fn begin_unlike(pattern: &[u8], path: &[u8]) -> bool
+    requires { ⌜ Begun (now pattern) × Begun (now path) ⌝ }
+    ensures { λ r. ⌜ (r ≡ true → fitLabels (labelsOf (now (pattern .entry))) (labelsOf (now (path .entry))) ≡ false) ⌝ }
+{
+    if pattern.len() < 2 {
+        return false;
+    }
+    if path.len() < 2 {
+        return false;
+    }
+    if pattern[1] == STAR {
+        return false;
+    }
+    pattern[1] != path[1]
+}
+
 // Label matching: tries the rest of a path against the pattern that remains.
 fn labels(pattern: &[u8], path: &[u8]) -> Trial
     requires { ⌜ Begun (now pattern) × Begun (now path) ⌝ }
@@ -103,6 +146,9 @@ fn labels(pattern: &[u8], path: &[u8]) -> Trial
             return Trial::Fits;
         }
         return Trial::Fails; // but a `**` before may take more labels
+    }
+    if begin_unlike(pattern, path) {
+        return Trial::Fails;
     }
     let a = next_slash(pattern, 1);
     if is_deep(&pattern[1..a]) {
@@ -128,6 +174,9 @@ fn descend(pattern: &[u8], path: &[u8]) -> Trial
     requires { ⌜ Begun (now pattern) × Begun (now path) ⌝ }
     ensures { λ r. ⌜ Says (afterSome (fitLabels (labelsOf (now (pattern .entry))))) (labelsOf (now (path .entry))) r ⌝ }
 {
+    if pattern.len() == 0 { // the `**` is the last label
+        return Trial::Fits; // it takes all labels that are left
+    }
     let mut b = 0;
     while b <= path.len() {
         let next = b + next_slash(&path[b..], 1);

@@ -14,23 +14,31 @@ use Rattle.matcher.specs.Bytes.{slash, labelByte}
 use Rattle.matcher.specs.Labels.{upToSlash, labelsOf}
 use Rattle.matcher.specs.Form.{apart, pathLabel, formedPath}
 use Rattle.matcher.specs.Reach.{beginsPath}
-use Rattle.buffer.proofs.Tests.{and-false}
+use Rattle.buffer.proofs.Tests.{and-false, not-both}
 use Rattle.glob.proofs.Parts.{step, no-items}
 
 -- c may stand before next
 abbrev pub mayStand : ℕ → ℕ → ℕ → Bool
 mayStand m c next = cond (eqb c m) (not (eqb next m)) (labelByte c)
 
+-- a label byte may, where the mark is none
+pub label-stands : (m c next : ℕ) → labelByte m ≡ false → labelByte c ≡ true → true ≡ mayStand m c next
+label-stands m c next n e = rw (ne-eqb c m (λ z. not-both e (ap labelByte z ∙ n)), e)
+
+-- a byte that is neither may not
+pub other-stands : (m c next : ℕ) → labelByte c ≡ false → (c ≡ m → ⊥) → false ≡ mayStand m c next
+other-stands m c next n e = rw (ne-eqb c m e, n)
+
 pub apart-step : (m : ℕ) (s : List ℕ) (i : ℕ) → i < length s → apart m (drop i s) ≡ mayStand m (getD s i 0) (getD s (i + 1) 0) && apart m (drop (i + 1) s)
 apart-step m s i l = ap (apart m) (step s i l) ∙ ap (λ (d : ℕ). mayStand m (getD s i 0) d && apart m (drop (i + 1) s)) (getD-drop (i + 1) s 0 0 ∙ ap (λ (n : ℕ). getD s n 0) (add-zero (i + 1)))
 
 -- the byte at i may not stand there, or it may, and what comes after it decides
-module _ (m : ℕ) (s : List ℕ) (i : ℕ) (l : i < length s) (next : ℕ) (n : next ≡ getD s (i + 1) 0) where
-  pub apart-stop : mayStand m (getD s i 0) next ≡ false → apart m (drop i s) ≡ false
-  apart-stop e = apart-step m s i l ∙ rw (← n, e)
+module _ (m : ℕ) (s : List ℕ) (i : ℕ) (l : i < length s) where
+  pub apart-stop : mayStand m (getD s i 0) (getD s (i + 1) 0) ≡ false → apart m (drop i s) ≡ false
+  apart-stop e = apart-step m s i l ∙ rw e
 
-  pub apart-on : mayStand m (getD s i 0) next ≡ true → apart m (drop i s) ≡ apart m (drop (i + 1) s)
-  apart-on e = apart-step m s i l ∙ rw (← n, e)
+  pub apart-on : mayStand m (getD s i 0) (getD s (i + 1) 0) ≡ true → apart m (drop i s) ≡ apart m (drop (i + 1) s)
+  apart-on e = apart-step m s i l ∙ rw e
 
 pub apart-end : (m : ℕ) (s : List ℕ) (i : ℕ) → length s ≤ i → apart m (drop i s) ≡ true
 apart-end m s i l = ap (apart m) (drop-of-length-le s l)

@@ -3,6 +3,7 @@ use crate::bytes::PATH_LIMIT;
 use crate::bytes::PATTERN_LABEL_LIMIT;
 use crate::bytes::SLASH;
 use crate::bytes::STAR;
+use crate::marks::LABEL_BYTES;
 use crate::runs::are_apart;
 use glob::split::byte_at;
 use glob::split::is_deep;
@@ -13,6 +14,7 @@ ghost use mathlib.Core.Bool.{not, cond};
 ghost use lib.Dec.{eqb};
 ghost use Rattle.buffer.specs.Lists.{all};
 ghost use Rattle.glob.specs.Inner.{Begun};
+ghost use Rattle.matcher.specs.Bytes.{Marks};
 ghost use Rattle.matcher.specs.Labels.{labelsOf};
 ghost use Rattle.matcher.specs.Form.{apart, patternLabel, formedPath, formedPattern, pathForm, patternForm, isFine, pathNumber, patternNumber};
 ghost use Rattle.matcher.specs.Reach.{beginsPath};
@@ -64,7 +66,8 @@ pub(crate) fn begins_path(known: &[u8]) -> bool
         return true;
     }
     if known[0] == SLASH {
-        return are_apart(known, SLASH);
+        let marks = LABEL_BYTES;
+        return are_apart(&marks, known, SLASH);
     }
     false
 }
@@ -97,7 +100,8 @@ pub fn check_path(path: &[u8]) -> Form
 }
 
 // Is a label of a pattern formed?
-fn is_pattern_label(l: &[u8]) -> bool
+fn is_pattern_label(marks: &[u8; 256], l: &[u8]) -> bool
+    requires { ⌜ Marks (now marks) ⌝ }
     ensures { λ r. ⌜ r ≡ patternLabel (now (l .entry)) ⌝ }
 {
     if l.len() == 0 {
@@ -106,22 +110,23 @@ fn is_pattern_label(l: &[u8]) -> bool
     if is_deep(l) {
         return true;
     }
-    are_apart(l, STAR)
+    are_apart(marks, l, STAR)
 }
 
 // Is each label of a pattern formed?
-fn are_pattern_labels(pattern: &[u8]) -> bool
-    requires { ⌜ Begun (now pattern) ⌝ }
+fn are_pattern_labels(marks: &[u8; 256], pattern: &[u8]) -> bool
+    requires { ⌜ Marks (now marks) × Begun (now pattern) ⌝ }
     ensures { λ r. ⌜ r ≡ all patternLabel (labelsOf (now (pattern .entry))) ⌝ }
 {
-    if pattern.len() == 0 {
-        return true;
+    let mut a = 0;
+    while a < pattern.len() {
+        let b = next_slash(pattern, a + 1);
+        if !is_pattern_label(marks, &pattern[a + 1..b]) {
+            return false;
+        }
+        a = b;
     }
-    let a = next_slash(pattern, 1);
-    if is_pattern_label(&pattern[1..a]) {
-        return are_pattern_labels(&pattern[a..]);
-    }
-    false
+    true
 }
 
 // Is this a pattern, of any length?
@@ -129,7 +134,8 @@ fn is_pattern(pattern: &[u8]) -> bool
     ensures { λ r. ⌜ r ≡ formedPattern (now (pattern .entry)) ⌝ }
 {
     if byte_at(pattern, 0) == SLASH {
-        return are_pattern_labels(pattern);
+        let marks = LABEL_BYTES;
+        return are_pattern_labels(&marks, pattern);
     }
     false
 }

@@ -1,9 +1,10 @@
-// Runs of label bytes. The table is lent: the compiler writes a constant array out wherever one is named, so a loop names it once.
-use crate::marks::LABEL_BYTES;
+// Runs of label bytes. The table is lent: the compiler writes a constant array out wherever one is named, so the callers name it once.
 use glob::split::byte_at;
 ghost use mathlib.Core.Path.{_≡_};
-ghost use mathlib.Core.Bool.{not, cond};
+ghost use mathlib.Core.Bool.{false, not, cond};
+ghost use Prim.Native.Nat.{_+_, _<_};
 ghost use lib.Dec.{eqb};
+ghost use lib.ListN.{length, getD};
 ghost use Rattle.matcher.specs.Bytes.{labelByte, Marks};
 ghost use Rattle.matcher.specs.Form.{apart};
 
@@ -15,25 +16,29 @@ pub(crate) fn marked(marks: &[u8; 256], b: u8) -> bool
     marks[b as usize] == 1
 }
 
-// May c stand before next, where only label bytes and single marks may?
-fn may_stand(marks: &[u8; 256], c: u8, next: u8, mark: u8) -> bool
-    requires { ⌜ Marks (now marks) ⌝ }
-    ensures { λ r. ⌜ r ≡ cond (eqb c mark) (not (eqb next mark)) (labelByte c) ⌝ }
+// May the byte at i stand before the next, where only label bytes and single marks may? The table comes first: nearly every byte is a label byte.
+fn may_stand(marks: &[u8; 256], s: &[u8], i: usize, mark: u8) -> bool
+    requires { ⌜ Marks (now marks) × (labelByte mark ≡ false) × (i < length (now s)) ⌝ }
+    ensures { λ r. ⌜ r ≡ cond (eqb (getD (now (s .entry)) i 0) mark) (not (eqb (getD (now (s .entry)) (i + 1) 0) mark)) (labelByte (getD (now (s .entry)) i 0)) ⌝ }
 {
-    if c == mark {
+    if marked(marks, s[i]) {
+        return true;
+    }
+    if s[i] == mark {
+        let next = byte_at(s, i + 1);
         return next != mark;
     }
-    marked(marks, c)
+    false
 }
 
-// Are these label bytes and marks, of which no two stand together?
-pub(crate) fn are_apart(s: &[u8], mark: u8) -> bool
+// Are these label bytes and marks, of which no two stand together? A mark is no label byte.
+pub(crate) fn are_apart(marks: &[u8; 256], s: &[u8], mark: u8) -> bool
+    requires { ⌜ Marks (now marks) × (labelByte mark ≡ false) ⌝ }
     ensures { λ r. ⌜ r ≡ apart mark (now (s .entry)) ⌝ }
 {
-    let marks = LABEL_BYTES;
     let mut i = 0;
     while i < s.len() {
-        if !may_stand(&marks, s[i], byte_at(s, i + 1), mark) {
+        if !may_stand(marks, s, i, mark) {
             return false;
         }
         i += 1;

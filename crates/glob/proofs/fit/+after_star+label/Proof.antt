@@ -15,10 +15,11 @@ use borrow.Fn.PlainCycle.{Measures, is, falls, and}
 use Rattle.glob.specs.Fit.{first, fitsLabel}
 use Rattle.glob.specs.Inner.{Says}
 use Rattle.glob.specs.declared.fit.Trial.the-variants.{Fits, Never}
-use Rattle.glob.proofs.Parts.{rest, split, back, back-all, back-step, back-end, no-items, an-item}
-use Rattle.glob.proofs.Trials.{Tried, tried-none, tried-on, now-some, never-twice, first-off, star-law, byte-law, end-law, alike-first}
+use Rattle.glob.proofs.Parts.{rest, split, back, back-all, no-items, an-item}
+use Rattle.glob.proofs.Trials.{Tried, tried-none, tried-step, tried-past, some-none, now-some, never-twice, first-off, star-law, byte-law, end-law, alike-first}
 use Rattle.glob.proofs.fit.after_star.Reads as after-star
 use Rattle.glob.proofs.fit.alike.Reads as alike
+use Rattle.glob.proofs.fit.next_try.Reads as next-try
 use Rattle.glob.proofs.fit.after_star.Kinds as after-star-kinds
 use Rattle.glob.proofs.fit.+after_star+label.Lts-after_star as after-star-lts
 use Rattle.glob.proofs.fit.label.Reads as label
@@ -47,7 +48,7 @@ label-below t = and 2 label-kinds.ps (falls 2 label-kinds.ps _<_ μ-label t) lab
 
 -- what the callees of `after_star` and of `label` ask and give
 abbrev after-star-calls : ℕ → after-star-lts.Claims
-after-star-calls t = (label-below t, label.Post)
+after-star-calls t = (next-try.Pre, next-try.Post, label-below t, label.Post)
 
 abbrev label-calls : ℕ → label-lts.Claims
 label-calls t = (after-star-below t, after-star.Post, alike.Pre, alike.Post, label-below t, label.Post)
@@ -58,34 +59,38 @@ after-star-Inv-loop p s i₀ i = (i ≤ length s + 1) × Tried (fitsLabel p) (le
 abbrev after-star-μ-loop : after-star-lts.MeasureT-loop
 after-star-μ-loop p s i₀ i = length s + 1 - i
 
+after-star-returns : (t : ℕ) → after-star-lts.Need-returns (after-star-calls t) (after-star-at t) after-star.Post after-star-Inv-loop after-star-μ-loop
+after-star-returns t c = rw (end-law (c .before .before .before .args .p .now) (c .if1 .taken)) (some-none (c .before .before .before .args .s .now))
+
 after-star-loop-holds : (t : ℕ) → after-star-lts.Need-loop-holds (after-star-calls t) (after-star-at t) after-star.Post after-star-Inv-loop after-star-μ-loop
 after-star-loop-holds t c =
-    let s = c .before .before .args .s .now in
-    (search needs, tried-none (fitsLabel (c .before .before .args .p .now)) (length s) (back s 0) s (back-all s))
-
-after-star-returns : (t : ℕ) → after-star-lts.Need-returns (after-star-calls t) (after-star-at t) after-star.Post after-star-Inv-loop after-star-μ-loop
-after-star-returns t c =
-    let k = fitsLabel (c .before .before .before .before .before .before .before .before .args .p .now) in
-    let l = back (c .before .before .before .before .before .before .before .before .args .s .now) (c .before .before .before .before .before .loop .i) in
-    c .before .before .before .before .before .loop .inv .1 .0 (omega (arith, c .before .before .before .before .loop-test .taken)) Fits (now-some k l (subst (Says k l) (c .enum-told .given .1) (c .before .before .label .ensures)))
+    let p = c .before .before .before .before .args .p .now in
+    let s = c .before .before .before .before .args .s .now in
+    (c .next-try .ensures .high, tried-past p s s 0 (c .next-try .result) (c .next-try .ensures) (tried-none (fitsLabel p) (length s) (back s 0) s (back-all s)))
 
 after-star-returns-2 : (t : ℕ) → after-star-lts.Need-returns-2 (after-star-calls t) (after-star-at t) after-star.Post after-star-Inv-loop after-star-μ-loop
 after-star-returns-2 t c =
-    let k = fitsLabel (c .before .before .before .before .before .before .before .before .args .p .now) in
-    let l = back (c .before .before .before .before .before .before .before .before .args .s .now) (c .before .before .before .before .before .loop .i) in
+    let k = fitsLabel (c .before .before .before .before .before .before .before .before .before .before .args .p .now) in
+    let l = back (c .before .before .before .before .before .before .before .before .before .before .args .s .now) (c .before .before .before .before .before .loop .i) in
+    c .before .before .before .before .before .loop .inv .1 .0 (omega (arith, c .before .before .before .before .loop-test .taken)) Fits (now-some k l (subst (Says k l) (c .enum-told .given .1) (c .before .before .label .ensures)))
+
+after-star-returns-3 : (t : ℕ) → after-star-lts.Need-returns-3 (after-star-calls t) (after-star-at t) after-star.Post after-star-Inv-loop after-star-μ-loop
+after-star-returns-3 t c =
+    let k = fitsLabel (c .before .before .before .before .before .before .before .before .before .before .args .p .now) in
+    let l = back (c .before .before .before .before .before .before .before .before .before .before .args .s .now) (c .before .before .before .before .before .loop .i) in
     c .before .before .before .before .before .loop .inv .1 .0 (omega (arith, c .before .before .before .before .loop-test .taken)) Never (never-twice k l (subst (Says k l) (c .enum-told2 .given .1) (c .before .before .label .ensures)))
 
 after-star-loop-again : (t : ℕ) → after-star-lts.Need-loop-again (after-star-calls t) (after-star-at t) after-star.Post after-star-Inv-loop after-star-μ-loop
 after-star-loop-again t c =
-    let s = c .before .before .before .before .before .before .before .before .args .s .now in
-    let i = c .before .before .before .before .before .loop .i in
-    let k = fitsLabel (c .before .before .before .before .before .before .before .before .args .p .now) in
-    let no = subst (Says k (back s i)) (c .enum-told3 .given .1) (c .before .before .label .ensures) in
-    let l : i ≤ length s = omega (arith, c .before .before .before .before .loop-test .taken) in
-    (search needs, tried-on k (length s) i (i + 1) (getD s i 0) (back s i) (back s (i + 1)) s l (λ m. back-step s i (omega arith)) (λ m. back-end s i (omega arith)) no (c .before .before .before .before .before .loop .inv .1))
+    let p = c .before .before .before .before .before .before .before .before .before .before .before .args .p .now in
+    let s = c .before .before .before .before .before .before .before .before .before .before .before .args .s .now in
+    let i = c .before .before .before .before .before .before .loop .i in
+    let no = subst (Says (fitsLabel p) (back s i)) (c .before .enum-told3 .given .1) (c .before .before .before .label .ensures) in
+    let next = c .next-try2 in
+    (next .ensures .high, tried-past p s s (i + 1) (next .result) (next .ensures) (tried-step p s s i (omega (arith, c .before .before .before .before .before .loop-test .taken)) no (c .before .before .before .before .before .before .loop .inv .1)))
 
-after-star-returns-3 : (t : ℕ) → after-star-lts.Need-returns-3 (after-star-calls t) (after-star-at t) after-star.Post after-star-Inv-loop after-star-μ-loop
-after-star-returns-3 t c = never-twice (fitsLabel (c .before .before .before .before .args .p .now)) (c .before .before .before .before .args .s .now) (c .before .loop .inv .1 .1 (omega (arith, c .loop-test .left)))
+after-star-returns-4 : (t : ℕ) → after-star-lts.Need-returns-4 (after-star-calls t) (after-star-at t) after-star.Post after-star-Inv-loop after-star-μ-loop
+after-star-returns-4 t c = never-twice (fitsLabel (c .before .before .before .before .before .before .args .p .now)) (c .before .before .before .before .before .before .args .s .now) (c .before .loop .inv .1 .1 (omega (arith, c .loop-test .left)))
 
 label-returns : (t : ℕ) → label-lts.Need-returns (label-calls t) (label-at t) label.Post
 label-returns t c = rw (end-law (c .before .before .before .before .args .p .now) (c .before .if1 .taken), no-items (c .before .before .before .before .args .s .now) (c .if2 .taken))
@@ -120,20 +125,23 @@ pub +after-star+label-spec : {M : Type 1} → statement M
     after-star.Post
     after-star-Inv-loop
     after-star-μ-loop
+    (after-star-returns t)
+    (λ c κs. search needs)
     (after-star-loop-holds t)
     (λ c. search needs)
     (λ c. search needs)
     (λ c. search needs)
     (λ c κs. search needs)
     (λ c. search needs)
-    (after-star-returns t)
-    (λ c. search needs)
     (after-star-returns-2 t)
     (λ c. search needs)
+    (after-star-returns-3 t)
     (λ c. search needs)
+    (λ c. search needs)
+    (λ c κs. search needs)
     (λ c. search needs)
     (after-star-loop-again t)
-    (after-star-returns-3 t))
+    (after-star-returns-4 t))
     λ t. label-lts.spec (label-calls t)
     (label-at t)
     label.Post

@@ -16,14 +16,15 @@ use Rattle.glob.specs.Fit.{fit, fitsLabel, fitLabels}
 use Rattle.glob.specs.Inner.{Says, Begun, Cut}
 use Rattle.glob.specs.declared.fit.Trial.the-variants.{Fits, Never}
 use Rattle.glob.proofs.Parts.{front, back, back-all, back-back}
-use Rattle.glob.proofs.Trials.{Tried, tried-none, now-some, never-twice}
-use Rattle.glob.proofs.Cuts.{no-labels, some-labels, begun-next, cut-law, cut-falls, deep-law, one-law, tried-cut, first-cut, first-not}
+use Rattle.glob.proofs.Trials.{Tried, tried-none, some-none, now-some, never-twice}
+use Rattle.glob.proofs.Cuts.{no-labels, labels-end-law, some-labels, begun-next, cut-law, cut-falls, deep-law, one-law, tried-cut, first-cut, first-not}
 use Rattle.glob.proofs.fit.descend.Reads as descend
 use Rattle.glob.proofs.fit.descend.Kinds as descend-kinds
 use Rattle.glob.proofs.fit.+descend+labels.Lts-descend as descend-lts
 use Rattle.glob.proofs.fit.labels.Reads as labels
 use Rattle.glob.proofs.fit.labels.Kinds as labels-kinds
 use Rattle.glob.proofs.fit.+descend+labels.Lts-labels as labels-lts
+use Rattle.glob.proofs.fit.begin_unlike.Reads as begin-unlike-reads
 use Rattle.glob.proofs.fit.label_fits.Reads as label-fits-reads
 use Rattle.glob.proofs.split.is_deep.Reads as is-deep-reads
 use Rattle.glob.proofs.split.next_slash.Reads as next-slash-reads
@@ -53,7 +54,7 @@ abbrev descend-calls : ℕ → descend-lts.Claims
 descend-calls t = (next-slash-reads.Asked, next-slash-reads.Learnt, labels-below t, labels.Post)
 
 abbrev labels-calls : ℕ → labels-lts.Claims
-labels-calls t = (next-slash-reads.Asked, next-slash-reads.Learnt, is-deep-reads.Asked, is-deep-reads.Learnt, descend-below t, descend.Post, label-fits-reads.Asked, label-fits-reads.Learnt, labels-below t, labels.Post)
+labels-calls t = (begin-unlike-reads.Pre, begin-unlike-reads.Post, next-slash-reads.Asked, next-slash-reads.Learnt, is-deep-reads.Asked, is-deep-reads.Learnt, descend-below t, descend.Post, label-fits-reads.Asked, label-fits-reads.Learnt, labels-below t, labels.Post)
 
 abbrev descend-Inv-loop : descend-lts.InvT-loop
 descend-Inv-loop pattern path b₀ b = (b ≤ length path + 1) × Begun (back path b) × Tried (fitLabels (labelsOf pattern)) (length path) b (labelsOf (back path b)) (labelsOf path)
@@ -61,44 +62,47 @@ descend-Inv-loop pattern path b₀ b = (b ≤ length path + 1) × Begun (back pa
 abbrev descend-μ-loop : descend-lts.MeasureT-loop
 descend-μ-loop pattern path b₀ b = length path + 1 - b
 
+descend-returns : (t : ℕ) → descend-lts.Need-returns (descend-calls t) (descend-at t) descend.Post descend-Inv-loop descend-μ-loop
+descend-returns t c = rw (labels-end-law (c .before .before .before .args .pattern .now) (c .if1 .taken)) (some-none (labelsOf (c .before .before .before .args .path .now)))
+
 descend-loop-holds : (t : ℕ) → descend-lts.Need-loop-holds (descend-calls t) (descend-at t) descend.Post descend-Inv-loop descend-μ-loop
 descend-loop-holds t c =
-    let s = c .before .before .args .path .now in
-    let k = fitLabels (labelsOf (c .before .before .args .pattern .now)) in
+    let s = c .before .before .before .args .path .now in
+    let k = fitLabels (labelsOf (c .before .before .before .args .pattern .now)) in
     let whole = back-all s in
-    (search needs, subst Begun (sym whole) (c .before .before .pre .1 .1), tried-none k (length s) (labelsOf (back s 0)) (labelsOf s) (ap labelsOf whole))
-
-descend-returns : (t : ℕ) → descend-lts.Need-returns (descend-calls t) (descend-at t) descend.Post descend-Inv-loop descend-μ-loop
-descend-returns t c =
-    let k = fitLabels (labelsOf (c .before .before .before .before .before .before .before .before .before .before .args .pattern .now)) in
-    let l = labelsOf (back (c .before .before .before .before .before .before .before .before .before .before .args .path .now) (c .before .before .before .before .before .before .before .loop .b)) in
-    c .before .before .before .before .before .before .before .loop .inv .2 .0 (omega (arith, c .before .before .before .before .before .before .loop-test .taken)) Fits (now-some k l (subst (Says k l) (c .enum-told .given .1) (c .before .before .labels .ensures)))
+    (search needs, subst Begun (sym whole) (c .before .before .before .pre .1 .1), tried-none k (length s) (labelsOf (back s 0)) (labelsOf s) (ap labelsOf whole))
 
 descend-returns-2 : (t : ℕ) → descend-lts.Need-returns-2 (descend-calls t) (descend-at t) descend.Post descend-Inv-loop descend-μ-loop
 descend-returns-2 t c =
-    let k = fitLabels (labelsOf (c .before .before .before .before .before .before .before .before .before .before .args .pattern .now)) in
-    let l = labelsOf (back (c .before .before .before .before .before .before .before .before .before .before .args .path .now) (c .before .before .before .before .before .before .before .loop .b)) in
+    let k = fitLabels (labelsOf (c .before .before .before .before .before .before .before .before .before .before .before .args .pattern .now)) in
+    let l = labelsOf (back (c .before .before .before .before .before .before .before .before .before .before .before .args .path .now) (c .before .before .before .before .before .before .before .loop .b)) in
+    c .before .before .before .before .before .before .before .loop .inv .2 .0 (omega (arith, c .before .before .before .before .before .before .loop-test .taken)) Fits (now-some k l (subst (Says k l) (c .enum-told .given .1) (c .before .before .labels .ensures)))
+
+descend-returns-3 : (t : ℕ) → descend-lts.Need-returns-3 (descend-calls t) (descend-at t) descend.Post descend-Inv-loop descend-μ-loop
+descend-returns-3 t c =
+    let k = fitLabels (labelsOf (c .before .before .before .before .before .before .before .before .before .before .before .args .pattern .now)) in
+    let l = labelsOf (back (c .before .before .before .before .before .before .before .before .before .before .before .args .path .now) (c .before .before .before .before .before .before .before .loop .b)) in
     c .before .before .before .before .before .before .before .loop .inv .2 .0 (omega (arith, c .before .before .before .before .before .before .loop-test .taken)) Never (never-twice k l (subst (Says k l) (c .enum-told2 .given .1) (c .before .before .labels .ensures)))
 
 descend-loop-again : (t : ℕ) → descend-lts.Need-loop-again (descend-calls t) (descend-at t) descend.Post descend-Inv-loop descend-μ-loop
 descend-loop-again t c =
-    let s = c .before .before .before .before .before .before .before .before .before .before .args .path .now in
+    let s = c .before .before .before .before .before .before .before .before .before .before .before .args .path .now in
     let b = c .before .before .before .before .before .before .before .loop .b in
     let inv = c .before .before .before .before .before .before .before .loop .inv in
     let next = c .before .before .before .before .next-slash in
-    let k = fitLabels (labelsOf (c .before .before .before .before .before .before .before .before .before .before .args .pattern .now)) in
+    let k = fitLabels (labelsOf (c .before .before .before .before .before .before .before .before .before .before .before .args .pattern .now)) in
     let no = subst (Says k (labelsOf (back s b))) (c .enum-told3 .given .1) (c .before .before .labels .ensures) in
     (search needs, subst Begun (back-back s b (next .result)) (begun-next (back s b) 1 (next .result) (next .ensures .0)), tried-cut k s b (next .result) (omega (arith, c .before .before .before .before .before .before .loop-test .taken)) (inv .1) (next .ensures .0) (next .ensures .1) no (inv .2))
 
-descend-returns-3 : (t : ℕ) → descend-lts.Need-returns-3 (descend-calls t) (descend-at t) descend.Post descend-Inv-loop descend-μ-loop
-descend-returns-3 t c = never-twice (fitLabels (labelsOf (c .before .before .before .before .args .pattern .now))) (labelsOf (c .before .before .before .before .args .path .now)) (c .before .loop .inv .2 .1 (omega (arith, c .loop-test .left)))
+descend-returns-4 : (t : ℕ) → descend-lts.Need-returns-4 (descend-calls t) (descend-at t) descend.Post descend-Inv-loop descend-μ-loop
+descend-returns-4 t c = never-twice (fitLabels (labelsOf (c .before .before .before .before .before .args .pattern .now))) (labelsOf (c .before .before .before .before .before .args .path .now)) (c .before .loop .inv .2 .1 (omega (arith, c .loop-test .left)))
 
 -- the first labels, cut off
-labels-cut : (t : ℕ) (c : labels-lts.After-next-slash (labels-calls t) (labels-at t) labels.Post) → Cut (c .before .before .before .before .args .pattern .now) (c .next-slash .result)
-labels-cut t c = cut-law (c .before .before .before .before .args .pattern .now) (c .next-slash .result) (c .before .if1 .left) (c .before .before .before .before .pre .1 .0) (c .next-slash .ensures .0) (c .next-slash .ensures .1)
+labels-cut : (t : ℕ) (c : labels-lts.After-next-slash (labels-calls t) (labels-at t) labels.Post) → Cut (c .before .before .before .before .before .before .args .pattern .now) (c .next-slash .result)
+labels-cut t c = cut-law (c .before .before .before .before .before .before .args .pattern .now) (c .next-slash .result) (c .before .before .before .if1 .left) (c .before .before .before .before .before .before .pre .1 .0) (c .next-slash .ensures .0) (c .next-slash .ensures .1)
 
-labels-cut2 : (t : ℕ) (c : labels-lts.After-next-slash2 (labels-calls t) (labels-at t) labels.Post) → Cut (c .before .before .before .before .before .before .before .before .before .args .path .now) (c .next-slash2 .result)
-labels-cut2 t c = cut-law (c .before .before .before .before .before .before .before .before .before .args .path .now) (c .next-slash2 .result) (c .before .if4 .left) (c .before .before .before .before .before .before .before .before .before .pre .1 .1) (c .next-slash2 .ensures .0) (c .next-slash2 .ensures .1)
+labels-cut2 : (t : ℕ) (c : labels-lts.After-next-slash2 (labels-calls t) (labels-at t) labels.Post) → Cut (c .before .before .before .before .before .before .before .before .before .before .before .args .path .now) (c .next-slash2 .result)
+labels-cut2 t c = cut-law (c .before .before .before .before .before .before .before .before .before .before .before .args .path .now) (c .next-slash2 .result) (c .before .if5 .left) (c .before .before .before .before .before .before .before .before .before .before .before .pre .1 .1) (c .next-slash2 .ensures .0) (c .next-slash2 .ensures .1)
 
 labels-returns : (t : ℕ) → labels-lts.Need-returns (labels-calls t) (labels-at t) labels.Post
 unfolding fit
@@ -108,60 +112,63 @@ labels-returns-2 : (t : ℕ) → labels-lts.Need-returns-2 (labels-calls t) (lab
 unfolding fit
 labels-returns-2 t c = rw (no-labels (c .before .before .before .before .args .pattern .now) (c .before .if1 .taken)) (some-labels (c .before .before .before .before .args .path .now) (c .if2 .left) (c .before .before .before .before .pre .1 .1))
 
+labels-returns-3 : (t : ℕ) → labels-lts.Need-returns-3 (labels-calls t) (labels-at t) labels.Post
+labels-returns-3 t c = c .before .begin-unlike .ensures (c .if3 .taken)
+
 labels-descend-requires : (t : ℕ) → labels-lts.Need-descend-requires (labels-calls t) (labels-at t) labels.Post
 labels-descend-requires t c κs =
     let d = c .before .before .before .before in
-    (search needs, (labels-cut t d .begun, d .before .before .before .before .pre .1 .1))
+    (search needs, (labels-cut t d .begun, d .before .before .before .before .before .before .pre .1 .1))
 
 labels-labels-requires : (t : ℕ) → labels-lts.Need-labels-requires (labels-calls t) (labels-at t) labels.Post
 labels-labels-requires t c κs =
     let e = c .before .before .before .before .before .before in
     let d = e .before .before .before .before .before in
-    let start = d .before .before .before .before in
+    let start = d .before .before .before .before .before .before in
     let less = cut-falls (start .args .pattern .now) (start .args .path .now) (d .next-slash .result) (e .next-slash2 .result) (labels-cut t d) (labels-cut2 t e) in
     (omega (arith, start .pre .0, less), (labels-cut t d .begun, labels-cut2 t e .begun))
 
-labels-returns-3 : (t : ℕ) → labels-lts.Need-returns-3 (labels-calls t) (labels-at t) labels.Post
-labels-returns-3 t c =
-    let a = c .before .before .before .before .before in
-    let law = deep-law (c .before .before .before .before .before .before .before .before .before .args .pattern .now) (a .next-slash .result) (labels-cut t a) (sym (c .before .before .before .is-deep .ensures) ∙ c .before .before .if3 .taken) in
-    subst (λ (g : List (List ℕ) → Bool). Says g (labelsOf (c .before .before .before .before .before .before .before .before .before .args .path .now)) (c .descend .result)) (sym law) (c .descend .ensures)
-
 labels-returns-4 : (t : ℕ) → labels-lts.Need-returns-4 (labels-calls t) (labels-at t) labels.Post
 labels-returns-4 t c =
-    let a = c .before .before .before .before in
-    rw (one-law (c .before .before .before .before .before .before .before .before .args .pattern .now) (a .next-slash .result) (labels-cut t a) (sym (c .before .before .is-deep .ensures) ∙ c .before .if3 .left), no-labels (c .before .before .before .before .before .before .before .before .args .path .now) (c .if4 .taken))
+    let a = c .before .before .before .before .before in
+    let law = deep-law (c .before .before .before .before .before .before .before .before .before .before .before .args .pattern .now) (a .next-slash .result) (labels-cut t a) (sym (c .before .before .before .is-deep .ensures) ∙ c .before .before .if4 .taken) in
+    subst (λ (g : List (List ℕ) → Bool). Says g (labelsOf (c .before .before .before .before .before .before .before .before .before .before .before .args .path .now)) (c .descend .result)) (sym law) (c .descend .ensures)
 
 labels-returns-5 : (t : ℕ) → labels-lts.Need-returns-5 (labels-calls t) (labels-at t) labels.Post
 labels-returns-5 t c =
-    let p = c .before .before .before .before .before .before .before .before .before .before .before .before .before .args .pattern .now in
-    let s = c .before .before .before .before .before .before .before .before .before .before .before .before .before .args .path .now in
+    let a = c .before .before .before .before in
+    rw (one-law (c .before .before .before .before .before .before .before .before .before .before .args .pattern .now) (a .next-slash .result) (labels-cut t a) (sym (c .before .before .is-deep .ensures) ∙ c .before .if4 .left), no-labels (c .before .before .before .before .before .before .before .before .before .before .args .path .now) (c .if5 .taken))
+
+labels-returns-6 : (t : ℕ) → labels-lts.Need-returns-6 (labels-calls t) (labels-at t) labels.Post
+labels-returns-6 t c =
+    let p = c .before .before .before .before .before .before .before .before .before .before .before .before .before .before .before .args .pattern .now in
+    let s = c .before .before .before .before .before .before .before .before .before .before .before .before .before .before .before .args .path .now in
     let a = c .before .before .before .before .before .before .before .before .before in
     let b = c .before .before .before .before in
     let k = fitLabels (labelsOf (back p (a .next-slash .result))) in
-    rw (one-law p (a .next-slash .result) (labels-cut t a) (sym (c .before .before .before .before .before .before .before .is-deep .ensures) ∙ c .before .before .before .before .before .before .if3 .left))
-    (first-not (fitsLabel (front p (a .next-slash .result))) k s (b .next-slash2 .result) (labels-cut2 t b) (sym (c .before .label-fits .ensures) ∙ not-true _ (c .if5 .taken)))
+    rw (one-law p (a .next-slash .result) (labels-cut t a) (sym (c .before .before .before .before .before .before .before .is-deep .ensures) ∙ c .before .before .before .before .before .before .if4 .left))
+    (first-not (fitsLabel (front p (a .next-slash .result))) k s (b .next-slash2 .result) (labels-cut2 t b) (sym (c .before .label-fits .ensures) ∙ not-true _ (c .if6 .taken)))
 
 -- the first label fits: what is said of the others is so of all
-labels-says : (t : ℕ) (c : labels-lts.After-labels (labels-calls t) (labels-at t) labels.Post) → Says (fitLabels (labelsOf (c .before .before .before .before .before .before .before .before .before .before .before .before .before .before .before .before .args .pattern .now))) (labelsOf (c .before .before .before .before .before .before .before .before .before .before .before .before .before .before .before .before .args .path .now)) (c .labels .result)
+labels-says : (t : ℕ) (c : labels-lts.After-labels (labels-calls t) (labels-at t) labels.Post) → Says (fitLabels (labelsOf (c .before .before .before .before .before .before .before .before .before .before .before .before .before .before .before .before .before .before .args .pattern .now))) (labelsOf (c .before .before .before .before .before .before .before .before .before .before .before .before .before .before .before .before .before .before .args .path .now)) (c .labels .result)
 labels-says t c =
-    let p = c .before .before .before .before .before .before .before .before .before .before .before .before .before .before .before .before .args .pattern .now in
-    let s = c .before .before .before .before .before .before .before .before .before .before .before .before .before .before .before .before .args .path .now in
+    let p = c .before .before .before .before .before .before .before .before .before .before .before .before .before .before .before .before .before .before .args .pattern .now in
+    let s = c .before .before .before .before .before .before .before .before .before .before .before .before .before .before .before .before .before .before .args .path .now in
     let a = c .before .before .before .before .before .before .before .before .before .before .before .before in
     let b = c .before .before .before .before .before .before .before in
     let k = fitLabels (labelsOf (back p (a .next-slash .result))) in
-    let law = one-law p (a .next-slash .result) (labels-cut t a) (sym (c .before .before .before .before .before .before .before .before .before .before .is-deep .ensures) ∙ c .before .before .before .before .before .before .before .before .before .if3 .left) in
+    let law = one-law p (a .next-slash .result) (labels-cut t a) (sym (c .before .before .before .before .before .before .before .before .before .before .is-deep .ensures) ∙ c .before .before .before .before .before .before .before .before .before .if4 .left) in
     subst (λ (g : List (List ℕ) → Bool). Says g (labelsOf s) (c .labels .result)) (sym law)
-    (first-cut (fitsLabel (front p (a .next-slash .result))) k s (b .next-slash2 .result) (c .labels .result) (labels-cut2 t b) (sym (c .before .before .before .before .label-fits .ensures) ∙ not-false _ (c .before .before .before .if5 .left)) (c .labels .ensures))
-
-labels-returns-6 : (t : ℕ) → labels-lts.Need-returns-6 (labels-calls t) (labels-at t) labels.Post
-labels-returns-6 t c = subst (Says (fitLabels (labelsOf (c .before .before .before .before .before .before .before .before .before .before .before .before .before .before .before .before .before .before .args .pattern .now))) (labelsOf (c .before .before .before .before .before .before .before .before .before .before .before .before .before .before .before .before .before .before .args .path .now))) (c .enum-told .given .1) (labels-says t (c .before .before))
+    (first-cut (fitsLabel (front p (a .next-slash .result))) k s (b .next-slash2 .result) (c .labels .result) (labels-cut2 t b) (sym (c .before .before .before .before .label-fits .ensures) ∙ not-false _ (c .before .before .before .if6 .left)) (c .labels .ensures))
 
 labels-returns-7 : (t : ℕ) → labels-lts.Need-returns-7 (labels-calls t) (labels-at t) labels.Post
-labels-returns-7 t c = subst (Says (fitLabels (labelsOf (c .before .before .before .before .before .before .before .before .before .before .before .before .before .before .before .before .before .before .args .pattern .now))) (labelsOf (c .before .before .before .before .before .before .before .before .before .before .before .before .before .before .before .before .before .before .args .path .now))) (c .enum-told2 .given .1) (labels-says t (c .before .before))
+labels-returns-7 t c = subst (Says (fitLabels (labelsOf (c .before .before .before .before .before .before .before .before .before .before .before .before .before .before .before .before .before .before .before .before .args .pattern .now))) (labelsOf (c .before .before .before .before .before .before .before .before .before .before .before .before .before .before .before .before .before .before .before .before .args .path .now))) (c .enum-told .given .1) (labels-says t (c .before .before))
 
 labels-returns-8 : (t : ℕ) → labels-lts.Need-returns-8 (labels-calls t) (labels-at t) labels.Post
-labels-returns-8 t c = subst (Says (fitLabels (labelsOf (c .before .before .before .before .before .before .before .before .before .before .before .before .before .before .before .before .before .before .args .pattern .now))) (labelsOf (c .before .before .before .before .before .before .before .before .before .before .before .before .before .before .before .before .before .before .args .path .now))) (c .enum-told3 .given .1) (labels-says t (c .before .before))
+labels-returns-8 t c = subst (Says (fitLabels (labelsOf (c .before .before .before .before .before .before .before .before .before .before .before .before .before .before .before .before .before .before .before .before .args .pattern .now))) (labelsOf (c .before .before .before .before .before .before .before .before .before .before .before .before .before .before .before .before .before .before .before .before .args .path .now))) (c .enum-told2 .given .1) (labels-says t (c .before .before))
+
+labels-returns-9 : (t : ℕ) → labels-lts.Need-returns-9 (labels-calls t) (labels-at t) labels.Post
+labels-returns-9 t c = subst (Says (fitLabels (labelsOf (c .before .before .before .before .before .before .before .before .before .before .before .before .before .before .before .before .before .before .before .before .args .pattern .now))) (labelsOf (c .before .before .before .before .before .before .before .before .before .before .before .before .before .before .before .before .before .before .before .before .args .path .now))) (c .enum-told3 .given .1) (labels-says t (c .before .before))
 
 pub +descend+labels-spec : {M : Type 1} → statement M
 +descend+labels-spec = close μ-descend μ-labels (λ t. descend-lts.spec (descend-calls t)
@@ -169,6 +176,7 @@ pub +descend+labels-spec : {M : Type 1} → statement M
     descend.Post
     descend-Inv-loop
     descend-μ-loop
+    (descend-returns t)
     (descend-loop-holds t)
     (λ c. search needs)
     (λ c. search needs)
@@ -180,18 +188,20 @@ pub +descend+labels-spec : {M : Type 1} → statement M
     (λ c. search needs)
     (λ c κs. search needs)
     (λ c. search needs)
-    (descend-returns t)
-    (λ c. search needs)
     (descend-returns-2 t)
+    (λ c. search needs)
+    (descend-returns-3 t)
     (λ c. search needs)
     (λ c. search needs)
     (descend-loop-again t)
-    (descend-returns-3 t))
+    (descend-returns-4 t))
     λ t. labels-lts.spec (labels-calls t)
     (labels-at t)
     labels.Post
     (labels-returns t)
     (labels-returns-2 t)
+    (λ c κs. search needs)
+    (labels-returns-3 t)
     (λ c κs. search needs)
     (λ c. search needs)
     (λ c. search needs)
@@ -201,17 +211,17 @@ pub +descend+labels-spec : {M : Type 1} → statement M
     (λ c. search needs)
     (λ c. search needs)
     (labels-descend-requires t)
-    (labels-returns-3 t)
     (labels-returns-4 t)
-    (λ c κs. search needs)
-    (λ c. search needs)
-    (λ c. search needs)
-    (λ c. search needs)
-    (λ c. search needs)
-    (λ c. search needs)
-    (λ c. search needs)
-    (λ c κs. search needs)
     (labels-returns-5 t)
+    (λ c κs. search needs)
+    (λ c. search needs)
+    (λ c. search needs)
+    (λ c. search needs)
+    (λ c. search needs)
+    (λ c. search needs)
+    (λ c. search needs)
+    (λ c κs. search needs)
+    (labels-returns-6 t)
     (λ c. search needs)
     (λ c. search needs)
     (λ c. search needs)
@@ -222,6 +232,6 @@ pub +descend+labels-spec : {M : Type 1} → statement M
     (λ c. search needs)
     (λ c. search needs)
     (λ c. search needs)
-    (labels-returns-6 t)
     (labels-returns-7 t)
     (labels-returns-8 t)
+    (labels-returns-9 t)
