@@ -10,9 +10,11 @@ use Rattle.trie_write.proofs.insert.insert_leaf.Tie as tie
 
 returns : tie.Need-returns
 returns c =
-    let a = c .before .before .before .before .before .before .before .before .before .before .before .before .args in
-    (refl, inserted (a .s .now) _ _ (a .at) _ (a .at) (a .used - a .at) _ (c .before .before .before .before .before .before .move-within .ensures) (c .before .before .put-leaf .ensures)
-    (length-newLeaf (a .value .now) (a .path .now) (a .reference .now) (omega arith)) (omega arith) (omega arith))
+    let a = c .before .before .before .before .before .before .before .before .before .before .before .before .args in (
+      refl,
+      inserted (a .s .now) _ _ (a .at) _ (a .at) (a .used - a .at) _ (c .before .before .before .before .before .before .move-within .ensures) (c .before .before .put-leaf .ensures)
+          (length-newLeaf (a .value .now) (a .path .now) (a .reference .now) (omega arith)) (omega arith) (omega arith),
+    )
 
 pub insert-leaf-spec : {M : Type 1} → statement M
 insert-leaf-spec =

@@ -10,9 +10,11 @@ use Rattle.trie_write.proofs.insert.insert_suffix.Tie as tie
 
 returns : tie.Need-returns
 returns c =
-    let a = c .before .before .before .before .before .before .before .before .before .before .before .before .args in
-    (refl, inserted (a .s .now) _ _ (a .at) _ (a .at) (a .used - a .at) _ (c .before .before .before .before .before .before .move-within .ensures) (c .before .before .put-suffix .ensures)
-    (length-suffixBytes (a .value .now) (a .path .now) (a .reference .now) (omega arith)) (omega arith) (omega arith))
+    let a = c .before .before .before .before .before .before .before .before .before .before .before .before .args in (
+      refl,
+      inserted (a .s .now) _ _ (a .at) _ (a .at) (a .used - a .at) _ (c .before .before .before .before .before .before .move-within .ensures) (c .before .before .put-suffix .ensures)
+          (length-suffixBytes (a .value .now) (a .path .now) (a .reference .now) (omega arith)) (omega arith) (omega arith),
+    )
 
 pub insert-suffix-spec : {M : Type 1} → statement M
 insert-suffix-spec =
