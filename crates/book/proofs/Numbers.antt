@@ -105,7 +105,7 @@ when-small : (n : ℕ) (b : Bool) → n < 9 → (n when b) < 9
 when-small n true h = h
 when-small n false h = omega arith
 
-path-small : (f : Form) → pathNumber f < 9
+pub path-small : (f : Form) → pathNumber f < 9
 path-small Fine = omega arith
 path-small TooLong = omega arith
 path-small Malformed = omega arith

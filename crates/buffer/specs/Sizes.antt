@@ -1,4 +1,4 @@
--- The sizes of what an entry has, which every layer shares, the block of a move, and the limit of a word. Assumes nothing: these are definitions.
+-- The sizes of what an entry has, which every layer shares, the block of a move, and the limits of a word and of 4 bytes. Assumes nothing: these are definitions.
 use Prim.Native.Nat.{ℕ}
 
 -- bytes of a value, and of a reference
@@ -19,3 +19,7 @@ moveBlock = 512
 -- the first number that has no 64 bits
 abbrev pub wordLimit : ℕ
 wordLimit = 18446744073709551616
+
+-- the first number that has no 4 bytes
+abbrev pub fourByteLimit : ℕ
+fourByteLimit = 4294967296

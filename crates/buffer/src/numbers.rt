@@ -2,6 +2,7 @@
 ghost use mathlib.Core.Path.{_≡_};
 ghost use Prim.Native.Nat.{_+_, _≤_, _<_};
 ghost use lib.ListN.{length};
+ghost use Rattle.buffer.specs.Sizes.{fourByteLimit};
 ghost use Rattle.buffer.specs.Splice.{splice, region};
 ghost use Rattle.buffer.specs.Numbers.{bytesOf, number};
 
@@ -12,7 +13,7 @@ fn wide32(b: u8) -> u32
 }
 
 fn wide64(x: u32) -> u64
-    ensures { λ r. ⌜ (r ≡ x) × (r < 4294967296) ⌝ }
+    ensures { λ r. ⌜ (r ≡ x) × (r < fourByteLimit) ⌝ }
 {
     x as u64
 }

@@ -9,6 +9,7 @@ use lib.Dec.{eqb, leb, ltb}
 use lib.Seq.{length-take-le, take-take, take-at, drop-at, getD-at}
 use borrow.Author.Tests.{eqb-true, eq-eqb, leb-true, le-leb, ltb-true, lt-ltb}
 use Rattle.buffer.specs.Splice.{splice, region}
+use Rattle.buffer.specs.Numbers.{bytesOf}
 use Rattle.buffer.proofs.Splice.{length-splice, length-region, splice-from, splice-then, splice-snoc, splice-whole, region-after, region-before, region-at, region-add, take-splice, take-before}
 use Rattle.buffer.proofs.Digits.{length-bytesOf}
 use Rattle.buffer.proofs.Tests.{and-left, and-right, and-both, not-true}
@@ -21,6 +22,8 @@ use Rattle.trie_theory.specs.Forest.{Key, join, under}
 use Rattle.trie_theory.specs.Strings.{at}
 use Rattle.entries.specs.Keys.{entryKey}
 use Rattle.entries.specs.Slots.{slotSize, slot, shortPath}
+use Rattle.entries.proofs.Slots.{lead, parts, length-lead, length-parts, parts-path, parts-length, lead-put, parts-put, parts-ended}
+use Rattle.entries.proofs.Slots as entries
 use Rattle.trie_read.specs.Shape.{keyOf}
 use Rattle.gather.specs.KeySlots.{endedLimit, hasSlot, keySlot, keyRow, known}
 
@@ -54,67 +57,37 @@ has-slot x h =
     (and-both (eq-eqb (length (x .reference)) referenceSize (h .reference))
     (and-both (lt-ltb 0 (length (at 1 (x .strings))) (h .ended)) (le-leb (length (at 1 (x .strings))) endedLimit (h .short))))
 
--- the bytes of a slot from its parts
-unfoldable parts : List ℕ → List ℕ → List ℕ → List ℕ
-parts a r p = a ++ (r ++ ((length p - 1) ∷ (p ++ replicate (slotSize - pathAt - length p) 0)))
-
-slot-parts : (x : Key) → keySlot x ≡ parts (at 0 (x .strings)) (x .reference) (at 1 (x .strings))
+slot-parts : (x : Key) → keySlot x ≡ parts (at 0 (x .strings)) (x .reference) (length (at 1 (x .strings)) - 1) (at 1 (x .strings))
 unfolding keySlot parts
 slot-parts x = refl
 
-module _ (a r p : List ℕ) (la : length a ≡ valueSize) (lr : length r ≡ referenceSize) (lp : length p ≤ endedLimit) where
-  abbrev zeros : List ℕ
-  zeros = replicate (slotSize - pathAt - length p) 0
+module _ (x : Key) (h : hasSlot x ≡ true) where
+  abbrev w : Slotted x
+  w = slotted x h
 
-  length-parts : length (parts a r p) ≡ slotSize
+  abbrev p : List ℕ
+  p = at 1 (x .strings)
+
+  pub length-slot : length (keySlot x) ≡ slotSize
+  length-slot = rw (slot-parts x) (length-parts (at 0 (x .strings)) (x .reference) (length p - 1) (w .value) (w .reference) p (omega (arith, w .short)))
+
+  pub short-slot : shortPath (keySlot x) ≡ true
+  unfolding shortPath
+  short-slot =
+      rw (slot-parts x, parts-length (at 0 (x .strings)) (x .reference) (length p - 1) (w .value) (w .reference) p)
+      (le-leb (length p - 1) pathLimit (omega (arith, w .short)))
+
+  pub length-row : length (keyRow x) ≡ rowSize
+  unfolding keyRow
+  length-row = length-take-le rowSize (keySlot x) (omega (arith, length-slot))
+
+  -- what stands in a slot
+  pub slot-value : take valueSize (keySlot x) ≡ at 0 (x .strings)
   unfolding parts
-  length-parts =
-      omega (arith, length-append a (r ++ ((length p - 1) ∷ (p ++ zeros))), length-append r ((length p - 1) ∷ (p ++ zeros)), length-append p zeros, length-replicate {A = ℕ} (slotSize - pathAt - length p) 0)
+  slot-value = rw (slot-parts x) (take-at (at 0 (x .strings)) _ valueSize (w .value))
 
-  abbrev lead : List ℕ
-  lead = a ++ (r ++ ((length p - 1) ∷ []))
-
-  length-lead : length lead ≡ pathAt
-  length-lead = omega (arith, length-append a (r ++ ((length p - 1) ∷ [])), length-append r ((length p - 1) ∷ []))
-
-  parts-lead : parts a r p ≡ lead ++ (p ++ zeros)
-  unfolding parts
-  parts-lead = simp append-assoc
-
-  -- from the path on
-  parts-path : drop pathAt (parts a r p) ≡ p ++ zeros
-  parts-path = rw parts-lead (drop-at lead (p ++ zeros) pathAt length-lead)
-
-  parts-length : getD (parts a r p) lengthAt 0 ≡ length p - 1
-  unfolding parts
-  parts-length =
-      let l : length (a ++ r) ≡ lengthAt = omega (arith, length-append a r) in
-      rw (← append-assoc a r ((length p - 1) ∷ (p ++ zeros))) (getD-at (a ++ r) (length p - 1) (p ++ zeros) 0 lengthAt l)
-
-pub length-slot : (x : Key) → hasSlot x ≡ true → length (keySlot x) ≡ slotSize
-length-slot x h = let w = slotted x h in rw (slot-parts x) (length-parts (at 0 (x .strings)) (x .reference) (at 1 (x .strings)) (w .value) (w .reference) (w .short))
-
-pub short-slot : (x : Key) → hasSlot x ≡ true → shortPath (keySlot x) ≡ true
-unfolding shortPath
-short-slot x h =
-    let w = slotted x h in
-    let p = at 1 (x .strings) in
-    rw (slot-parts x, parts-length (at 0 (x .strings)) (x .reference) p (w .value) (w .reference) (w .short)) (le-leb (length p - 1) pathLimit (omega (arith, w .short)))
-
-pub length-row : (x : Key) → hasSlot x ≡ true → length (keyRow x) ≡ rowSize
-unfolding keyRow
-length-row x h = length-take-le rowSize (keySlot x) (omega (arith, length-slot x h))
-
--- what stands in a slot
-pub slot-value : (x : Key) → hasSlot x ≡ true → take valueSize (keySlot x) ≡ at 0 (x .strings)
-unfolding parts
-slot-value x h = rw (slot-parts x) (take-at (at 0 (x .strings)) _ valueSize (slotted x h .value))
-
-pub slot-path : (x : Key) → hasSlot x ≡ true → region (keySlot x) pathAt (length (at 1 (x .strings))) ≡ at 1 (x .strings)
-slot-path x h =
-    let w = slotted x h in
-    let p = at 1 (x .strings) in
-    rw (slot-parts x, parts-path (at 0 (x .strings)) (x .reference) p (w .value) (w .reference) (w .short)) (take-at p _ (length p) refl)
+  pub slot-path : region (keySlot x) pathAt (length p) ≡ p
+  slot-path = rw (slot-parts x, parts-path (at 0 (x .strings)) (x .reference) (length p - 1) (w .value) (w .reference) p) (take-at p _ (length p) refl)
 
 -- ---- the key of an entry
 
@@ -125,22 +98,12 @@ entry-has e h =
     let l = length-append (e .path) (0 ∷ []) in
     has-slot (entryKey e) record { value = length-bytesOf valueSize (e .value); reference = f .full; ended = omega arith; short = omega (arith, f .short) }
 
--- the end byte and the zeros behind it are the zeros behind the path
-end-zeros : (p : List ℕ) → length p ≤ pathLimit
-    → (p ++ (0 ∷ [])) ++ replicate (slotSize - pathAt - length (p ++ (0 ∷ []))) 0 ≡ (p ++ replicate (pathLimit - length p) 0) ++ replicate (slotSize - rowSize) 0
-end-zeros p h =
-    let n : ℕ = slotSize - pathAt - length (p ++ (0 ∷ [])) in
-    let m : ℕ = pathLimit - length p in
-    let e : suc n ≡ m + (slotSize - rowSize) = omega (arith, length-append p (0 ∷ [])) in
-    append-assoc p (0 ∷ []) (replicate n 0)
-    ∙ ap (λ (l : List ℕ). p ++ l) (ap (λ (k : ℕ). replicate k 0) e ∙ sym (replicate-append-replicate m (slotSize - rowSize) 0))
-    ∙ sym (append-assoc p (replicate m 0) (replicate (slotSize - rowSize) 0))
-
 pub entry-slot : (e : Entry) → fitsRow e ≡ true → keySlot (entryKey e) ≡ slot e
-unfolding entryKey keySlot slot row
+unfolding entryKey
 entry-slot e h =
     let n : length (e .path ++ (0 ∷ [])) - 1 ≡ length (e .path) = omega (arith, length-append (e .path) (0 ∷ [])) in
-    rw (n, end-zeros (e .path) (fits e h .short)) (simp append-assoc)
+    let s = fits e h .short in
+    rw (slot-parts (entryKey e), n) (parts-ended (bytesOf valueSize (e .value)) (e .reference) (length (e .path)) (e .path) (omega arith) ∙ entries.slot-parts e s)
 
 -- its row is the entry's
 pub entry-row : (e : Entry) → fitsRow e ≡ true → keyRow (entryKey e) ≡ row e
@@ -190,41 +153,32 @@ module _ (k a b r : List ℕ) (v p n : ℕ) (lk : length k ≡ slotSize) (la : v
   unfolding under join known
   key-slotted = record { value = length-value; reference = lr; ended = omega (arith, length-path); short = omega (arith, length-path) }
 
-  key-slot : keySlot key ≡ parts value r path
-  unfolding under join known keySlot parts
-  key-slot = refl
-
   abbrev front : List ℕ
-  front = (value ++ r) ++ ((n - 1) ∷ [])
+  front = lead value r (n - 1)
 
   abbrev filler : List ℕ
   filler = replicate (slotSize - pathAt - n) 0
+
+  key-slot : keySlot key ≡ parts value r (n - 1) path
+  unfolding under join known
+  key-slot = rw (slot-parts key, length-path) refl
 
   fronted : set (splice (splice k v a) referenceAt r) lengthAt (n - 1) ≡ splice k 0 front
   fronted =
       let z : v - 0 ≡ v = omega arith in
       let first : splice k v a ≡ splice k 0 value = rw z at (splice-from k 0 v a (omega arith) (omega arith)) in
-      let second = splice-then (splice k v a) k 0 value referenceAt r first (omega (arith, length-value)) (omega (arith, length-value)) in
-      let at-length : 0 + length (value ++ r) ≡ lengthAt = omega (arith, length-append value r, length-value) in
-      rw second (rw at-length at (splice-snoc k 0 (value ++ r) (n - 1) (omega arith)))
-
-  length-front : length front ≡ pathAt
-  length-front = omega (arith, length-append (value ++ r) ((n - 1) ∷ []), length-append value r, length-value)
+      rw first (lead-put value r (n - 1) length-value lr k 0 (omega arith))
 
   -- behind the front the known path bytes stand, and the rest goes behind them
-  pathed : splice (splice k 0 front) (pathAt + p) b ≡ splice k 0 (front ++ path)
+  pathed : splice (splice k 0 front) (pathAt + p) b ≡ splice (splice k 0 front) pathAt path
   pathed =
       let s = splice k 0 front in
-      let fit : 0 + length front ≤ length k = omega (arith, length-front) in
+      let long = length-lead value r (n - 1) length-value lr in
+      let fit : 0 + length front ≤ length k = omega (arith, long) in
       let z : pathAt + p - pathAt ≡ p = omega arith in
       let q : splice s (pathAt + p) b ≡ splice s pathAt (region s pathAt p ++ b) =
       rw z at (splice-from s pathAt (pathAt + p) b (omega arith) (omega (arith, length-splice k 0 front fit))) in
-      let same : region s pathAt p ≡ region k pathAt p = region-after k 0 front fit pathAt p (omega (arith, length-front)) in
-      q ∙ ap (λ (l : List ℕ). splice s pathAt (l ++ b)) same ∙ splice-then s k 0 front pathAt path refl (omega (arith, length-front)) fit
-
-  front-parts : (front ++ path) ++ filler ≡ parts value r path
-  unfolding parts
-  front-parts = rw length-path (simp append-assoc)
+      q ∙ ap (λ (l : List ℕ). splice s pathAt (l ++ b)) (region-after k 0 front fit pathAt p (omega (arith, long)))
 
   -- the buffer after all writes
   pub filled-has : hasSlot key ≡ true
@@ -232,27 +186,23 @@ module _ (k a b r : List ℕ) (v p n : ℕ) (lk : length k ≡ slotSize) (la : v
 
   pub filled : splice (splice (set (splice (splice k v a) referenceAt r) lengthAt (n - 1)) (pathAt + p) b) (pathAt + n) filler ≡ keySlot key
   filled =
-      let l = length-append front path in
-      let all = length-append (front ++ path) filler in
-      let z = length-replicate {A = ℕ} (slotSize - pathAt - n) 0 in
-      rw (fronted, pathed)
-      (splice-then (splice k 0 (front ++ path)) k 0 (front ++ path) (pathAt + n) filler refl (omega (arith, length-front, length-path)) (omega (arith, length-front, length-path))
-      ∙ splice-whole k ((front ++ path) ++ filler) (omega (arith, length-front, length-path))
-      ∙ front-parts
-      ∙ sym key-slot)
+      let long : length (parts value r (n - 1) path) ≡ slotSize = length-parts value r (n - 1) length-value lr path (omega (arith, length-path)) in
+      let put : splice (splice (splice k 0 front) pathAt path) (pathAt + n) filler ≡ splice k 0 (parts value r (n - 1) path) =
+      rw length-path at (parts-put value r (n - 1) length-value lr k 0 path (omega (arith, length-path)) (omega arith)) in
+      rw (fronted, pathed, put) (splice-whole k (parts value r (n - 1) path) (omega (arith, long)) ∙ sym key-slot)
 
-  first-kept : take v (parts value r path) ≡ take v k
+  first-kept : take v (parts value r (n - 1) path) ≡ take v k
   unfolding parts
   first-kept = rw (append-assoc (take v k) a) (take-at (take v k) _ v (length-take-le v k (omega arith)))
 
-  second-kept : region (parts value r path) pathAt p ≡ region k pathAt p
+  second-kept : region (parts value r (n - 1) path) pathAt p ≡ region k pathAt p
   second-kept =
-      rw (parts-path value r path length-value lr (omega (arith, length-path)), append-assoc (region k pathAt p) b)
+      rw (parts-path value r (n - 1) length-value lr path, append-assoc (region k pathAt p) b)
       (take-at (region k pathAt p) _ p (length-region k pathAt p (omega arith)))
 
   -- what is known stays
   pub filled-kept : known v p (keySlot key) ≡ known v p k
-  filled-kept = rw key-slot (known-same v p (parts value r path) k first-kept second-kept)
+  filled-kept = rw key-slot (known-same v p (parts value r (n - 1) path) k first-kept second-kept)
 
 -- a slot there is exactly where they come to a value and a path
 slot-lengths : (k a b r : List ℕ) (v p : ℕ) → length k ≡ slotSize → v ≤ valueSize → p ≤ endedLimit → hasSlot (under (known v p k) (keyOf a b r)) ≡ true

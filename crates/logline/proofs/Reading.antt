@@ -1,5 +1,5 @@
 -- A field of a line at a position: there, or lost because no comma follows. Assumes nothing.
-use mathlib.Core.Path.{_≡_, refl, sym, ap, _∙_}
+use mathlib.Core.Path.{_≡_, refl, sym, ap, subst, _∙_}
 use mathlib.Core.Bool.{Bool, true, false, cond}
 use mathlib.Core.List.{List, [], _∷_}
 use Prim.Native.Nat.{ℕ, _+_, _-_, _≤_, _<_}
@@ -10,10 +10,13 @@ use lib.Dec.{ltb}
 use borrow.Author.Tests.{lt-ltb, le-ltb}
 use Rattle.buffer.specs.Splice.{region}
 use Rattle.buffer.proofs.Splice.{length-region}
-use Rattle.linefields.specs.Fields.{width, Ends, isReference}
-use Rattle.logline.specs.Meaning.{Meaning, withField, meaning, meant, Says}
+use Rattle.linefields.specs.Fields.{width, Ends, numberOf, isReference}
+use Rattle.logline.specs.Meaning.{Meaning, withField, withNumber, meaning, meant, Says}
 use Rattle.logline.specs.Meaning.Meaning.{misread}
 use Rattle.logline.specs.declared.command.Command.the-variants.{Misread}
+use Rattle.logline.specs.declared.command.Field.{Field}
+use Rattle.logline.specs.declared.command.Field.the-variants.{Numeral, Lost}
+use Rattle.logline.specs.Numerals.{withNumeral, Behind, NumberRead}
 use Rattle.linefields.proofs.Scan.{reference-length}
 
 pub misreads : (s : List ℕ) (m : Meaning) → m ≡ misread → Says s m Misread
@@ -36,6 +39,21 @@ module _ (s : List ℕ) (at e : ℕ) (ends : Ends s at e) where
 
   pub reference-field : at ≤ e → isReference (take (e - at) (drop at s)) ≡ true → e ≡ at + 40
   reference-field h r = omega (arith, length-region s at (e - at) (omega arith), reference-length _ r)
+
+-- a decimal field that was read
+module _ (s : List ℕ) (at : ℕ) (r : Field) (h : NumberRead s at r) where
+  abbrev Goes : (ℕ → List ℕ → Meaning) → Meaning → Type 0
+  Goes k m = withField (drop at s) (λ f t. withNumber (numberOf f) (λ n. k n t)) ≡ m
+
+  pub number-lost : r ≡ Lost → (k : ℕ → List ℕ → Meaning) → Goes k misread
+  number-lost e k = h .means k ∙ ap (λ (x : Field). withNumeral s x k) e
+
+  module _ (n next : ℕ) (e : r ≡ Numeral n next) where
+    pub number-there : (k : ℕ → List ℕ → Meaning) → Goes k (k n (drop next s))
+    number-there k = h .means k ∙ ap (λ (x : Field). withNumeral s x k) e
+
+    pub number-behind : next ≤ length s
+    number-behind = subst (Behind s) e (h .behind)
 
 -- the test on a line's length
 module _ (s : List ℕ) (at : ℕ) where

@@ -2,11 +2,10 @@
 use linecut::sizes::LINE_LIMIT;
 use linefields::fields::Number;
 ghost use mathlib.Core.Path.{_≡_};
-ghost use Prim.Native.Nat.{_+_, _-_, _≤_, _<_};
-ghost use mathlib.Core.List.{List};
-ghost use lib.ListN.{length, take, drop};
-ghost use Rattle.buffer.specs.Splice.{region};
-ghost use Rattle.logline.specs.Meaning.{meaning, additionOf, searchOf, setupOf, Says};
+ghost use Prim.Native.Nat.{_≤_};
+ghost use lib.ListN.{length, drop};
+ghost use Rattle.logline.specs.Meaning.{meaning, withField, additionOf, searchOf, setupOf, Says};
+ghost use Rattle.logline.specs.Numerals.{NumberRead};
 
 pub enum Command {
     Setup {
@@ -27,19 +26,39 @@ pub enum Command {
     Misread,
 }
 
+// A decimal field: its number, and the position behind its comma.
+enum Field {
+    Numeral { value: u64, next: usize },
+    Lost,
+}
+
+// The decimal field that begins at `at`; lost without a comma behind it.
+fn read_number(s: &[u8], at: usize) -> Field
+    requires { ⌜ at ≤ length (now s) ⌝ }
+    ensures { λ r. ⌜ NumberRead (now (s .entry)) at r ⌝ }
+{
+    let a = linefields::fields::field_end(s, at);
+    if a == s.len() {
+        return Field::Lost;
+    }
+    let Number::Value(value) = linefields::fields::decimal(&s[at..a]) else {
+        return Field::Lost;
+    };
+    Field::Numeral { value, next: a + 1 }
+}
+
 // `value,reference,path` from `at` on.
 fn read_addition(s: &[u8], at: usize) -> Command
     requires { ⌜ at ≤ length (now s) ⌝ }
     ensures { λ r. ⌜ Says (now (s .entry)) (additionOf (drop at (now (s .entry)))) r ⌝ }
 {
-    let a = linefields::fields::field_end(s, at);
-    if a == s.len() {
-        return Command::Misread;
-    }
-    let Number::Value(value) = linefields::fields::decimal(&s[at..a]) else {
+    let Field::Numeral {
+        value,
+        next: reference,
+    } = read_number(s, at)
+    else {
         return Command::Misread;
     };
-    let reference = a + 1;
     let b = linefields::fields::field_end(s, reference);
     if b == s.len() {
         return Command::Misread;
@@ -59,45 +78,34 @@ fn read_search(s: &[u8], at: usize) -> Command
     requires { ⌜ at ≤ length (now s) ⌝ }
     ensures { λ r. ⌜ Says (now (s .entry)) (searchOf (drop at (now (s .entry)))) r ⌝ }
 {
-    let a = linefields::fields::field_end(s, at);
-    if a == s.len() {
-        return Command::Misread;
-    }
-    let Number::Value(low) = linefields::fields::decimal(&s[at..a]) else {
+    let Field::Numeral { value: low, next } = read_number(s, at) else {
         return Command::Misread;
     };
-    let next = a + 1;
-    let b = linefields::fields::field_end(s, next);
-    if b == s.len() {
-        return Command::Misread;
-    }
-    let Number::Value(high) = linefields::fields::decimal(&s[next..b]) else {
+    let Field::Numeral {
+        value: high,
+        next: pattern,
+    } = read_number(s, next)
+    else {
         return Command::Misread;
     };
-    Command::Search {
-        low,
-        high,
-        pattern: b + 1,
-    }
+    Command::Search { low, high, pattern }
 }
 
-// `M,L,τ` from `at` on, where the first field ends at `a`.
-fn read_setup(s: &[u8], at: usize, a: usize) -> Command
-    requires { ⌜ (at ≤ a) × (a < length (now s)) ⌝ }
-    ensures { λ r. ⌜ Says (now (s .entry)) (setupOf (region (now (s .entry)) at (a - at)) (drop (a + 1) (now (s .entry)))) r ⌝ }
+// `M,L,τ` from `at` on.
+fn read_setup(s: &[u8], at: usize) -> Command
+    requires { ⌜ at ≤ length (now s) ⌝ }
+    ensures { λ r. ⌜ Says (now (s .entry)) (withField (drop at (now (s .entry))) setupOf) r ⌝ }
 {
-    let Number::Value(m) = linefields::fields::decimal(&s[at..a]) else {
+    let Field::Numeral { value: m, next } = read_number(s, at) else {
         return Command::Misread;
     };
-    let next = a + 1;
-    let b = linefields::fields::field_end(s, next);
-    if b == s.len() {
-        return Command::Misread;
-    }
-    let Number::Value(l) = linefields::fields::decimal(&s[next..b]) else {
+    let Field::Numeral {
+        value: l,
+        next: last,
+    } = read_number(s, next)
+    else {
         return Command::Misread;
     };
-    let last = b + 1;
     let Number::Value(tau) = linefields::fields::decimal(&s[last..]) else {
         return Command::Misread;
     };
@@ -124,7 +132,7 @@ pub fn command_at(s: &[u8], at: usize) -> Command
     if linefields::fields::is_only(&s[at..a], 63) {
         return read_search(s, a + 1);
     }
-    read_setup(s, at, a)
+    read_setup(s, at)
 }
 
 // All that remains of a line from `at` on.

@@ -31,11 +31,18 @@ pub fn rest<'a>(l: Line<'a>) -> &'a [u8]
     crate::command::tail_at(l.bytes, l.at)
 }
 
+// The command of a line that begins at `at`.
+fn read_at(line: &[u8], at: usize) -> Command
+    ensures { λ r. ⌜ Says (now (line .entry)) (meaning (drop at (now (line .entry)))) r ⌝ }
+{
+    read(line_at(line, at))
+}
+
 // A line without its 0A, read as a command.
 pub fn parse(line: &[u8]) -> Command
     ensures { λ r. ⌜ Says (now (line .entry)) (meaning (now (line .entry))) r ⌝ }
 {
-    read(line_at(line, 0))
+    read_at(line, 0)
 }
 
 // The path or pattern of a command: all of the line from its position on.

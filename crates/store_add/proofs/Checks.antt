@@ -1,14 +1,13 @@
 -- Check after check. Assumes nothing.
 use mathlib.Core.Path.{_≡_}
-use Prim.Native.Nat.{ℕ, _+_, _-_, _*_, _^_, _≤_, _<_}
+use Prim.Native.Nat.{ℕ, zero, suc, _+_, _-_, _*_, _^_, _≤_, _<_}
 use mathlib.Core.List.{List}
 use native.Mathlib.Omega.{arith}
 use native.Mathlib.Nat.{mul-le-mul}
 use lib.Pow.{pow-mono}
 use lib.ListN.{length}
 use borrow.Author.Tests.{eq-eqb, ne-eqb}
-use Rattle.matcher.specs.Form.{pathForm}
-use Rattle.matcher.specs.declared.form.Form.the-variants.{Fine, TooLong, Malformed}
+use Rattle.matcher.specs.Form.{pathForm, pathNumber}
 use Rattle.rows.specs.Sizes.{referenceSize}
 use Rattle.book.specs.Front.{capacity, full}
 use Rattle.book.specs.Replies.{addNumber}
@@ -19,18 +18,18 @@ pub capacity-most : (m l : ℕ) → m ≤ 4096 → l ≤ 8 → m * 2 ^ l ≤ 104
 capacity-most m l h k = mul-le-mul h (pow-mono k)
 
 module _ (m l held : ℕ) (path reference : List ℕ) where
-  pub too-long : TooLong ≡ pathForm path → Checked m l held path reference 2
+  pub path-refused : (k : ℕ) → k ≡ pathNumber (pathForm path) → 0 < k → Checked m l held path reference k
   unfolding addNumber
-  too-long p n value f em el eh s = rw (s, ← p)
+  path-refused zero p h = absurd (omega arith)
+  path-refused (suc k) p h = λ n value f em el eh s. rw (s, ← p)
 
-  pub malformed : Malformed ≡ pathForm path → Checked m l held path reference 1
-  unfolding addNumber
-  malformed p n value f em el eh s = rw (s, ← p)
+  module _ (k : ℕ) (p : k ≡ pathNumber (pathForm path)) (z : k ≤ 0) where
+    none : pathNumber (pathForm path) ≡ 0
+    none = omega arith
 
-  module _ (p : Fine ≡ pathForm path) where
     pub not-twenty : (length reference ≡ referenceSize → ⊥) → Checked m l held path reference 3
     unfolding addNumber
-    not-twenty r n value f em el eh s = rw (s, ← p, ne-eqb (length reference) referenceSize r)
+    not-twenty r n value f em el eh s = rw (s, none, ne-eqb (length reference) referenceSize r)
 
     module _ (r : length reference ≡ referenceSize) (q : ℕ) (q-is : q ≡ 2 ^ l) where
       pub is-full : held + 1 ≡ m * q → Checked m l held path reference 9
@@ -38,11 +37,11 @@ module _ (m l held : ℕ) (path reference : List ℕ) where
       is-full h n value f em el eh s =
           let w : f .held + 1 ≡ f .M * 2 ^ f .L = rw (← em, ← el, ← eh, ← q-is) h in
           let e : f .held ≡ f .M * 2 ^ f .L - 1 = omega arith in
-          rw (s, ← p, eq-eqb (length reference) referenceSize r, eq-eqb (f .held) (f .M * 2 ^ f .L - 1) e)
+          rw (s, none, eq-eqb (length reference) referenceSize r, eq-eqb (f .held) (f .M * 2 ^ f .L - 1) e)
 
       pub has-space : held < m * 2 ^ l → (held + 1 ≡ m * q → ⊥) → Checked m l held path reference 0
       unfolding addNumber full capacity
       has-space i h n value f em el eh s =
           let j : f .held < f .M * 2 ^ f .L = rw (← em, ← el, ← eh) i in
           let e : f .held ≡ f .M * 2 ^ f .L - 1 → ⊥ = λ y. h (rw (em, q-is, el, eh) (omega (arith, y, j))) in
-          rw (s, ← p, eq-eqb (length reference) referenceSize r, ne-eqb (f .held) (f .M * 2 ^ f .L - 1) e)
+          rw (s, none, eq-eqb (length reference) referenceSize r, ne-eqb (f .held) (f .M * 2 ^ f .L - 1) e)

@@ -26,7 +26,7 @@ use Rattle.trie_theory.specs.Level.{levelOf}
 use Rattle.trie_theory.specs.Encode.{encode}
 use Rattle.entries.specs.Keys.{entryKey}
 use Rattle.entries.specs.Slots.{slotSize, slot, slotKey, shortPath}
-use Rattle.entries.proofs.Slots.{records-slots, length-slots}
+use Rattle.entries.proofs.Slots.{slot-long, slot-short, records-slots, length-slots}
 use Rattle.trie_sets.specs.Sets.{keysOf, shortPaths}
 use Rattle.trie_build.proofs.Entries.{entries-keys}
 use Rattle.buffer.proofs.Lists.{tested-append}
@@ -40,7 +40,6 @@ use Rattle.book.proofs.EntryKeys.{keys-of-entries}
 use Rattle.store.specs.Parts.{regionAt, regionSize, numbered, upTo}
 use Rattle.store.proofs.Places.{region-within, good-numbered}
 use Rattle.store_overflow.specs.Steps.{slotsAt, levelBytes, FirstGathered, LevelFilled}
-use Rattle.store_overflow.proofs.Placing.{length-put, put-short}
 use Rattle.store_overflow.proofs.LevelBytes.{length-level}
 use Rattle.store_overflow.proofs.FirstTries.{entries-next}
 
@@ -109,7 +108,7 @@ module _ (m l τ j k x n : ℕ) (e : Entry) (short : length (e .path) ≤ pathLi
   both = g .bytes ++ slot e
 
   length-both : length both ≡ (n + 1) * slotSize
-  length-both = omega (arith, length-append (g .bytes) (slot e), g .long, length-put e short twenty)
+  length-both = omega (arith, length-append (g .bytes) (slot e), g .long, slot-long e short twenty)
 
   few : n + 1 ≤ x
   few = omega (arith, g .most, z .some)
@@ -131,11 +130,11 @@ module _ (m l τ j k x n : ℕ) (e : Entry) (short : length (e .path) ≤ pathLi
       ap (λ (t : List ℕ). records slotSize (n + 1) (drop slots t)) second
       ∙ ap (records slotSize (n + 1)) (drop-at-splice s slots both inside ∙ append-assoc (g .bytes) (slot e) rest)
       ∙ records-append slotSize n 1 (g .bytes) (slot e ++ rest) (g .long)
-      ∙ ap (λ (r : List ℕ). records slotSize n (g .bytes) ++ (r ∷ [])) (take-at (slot e) rest slotSize (length-put e short twenty))
+      ∙ ap (λ (r : List ℕ). records slotSize n (g .bytes) ++ (r ∷ [])) (take-at (slot e) rest slotSize (slot-long e short twenty))
 
   pub short-slots : shortPaths (n + 1) (drop slots s₂) ≡ true
   unfolding shortPaths
-  short-slots = ap (all shortPath) slots-are ∙ all-snoc shortPath (records slotSize n (g .bytes)) (slot e) (g .short) (put-short e short twenty)
+  short-slots = ap (all shortPath) slots-are ∙ all-snoc shortPath (records slotSize n (g .bytes)) (slot e) (g .short) (slot-short e short twenty)
 
   abbrev level-bytes : List ℕ
   level-bytes = levelBytes x τ (n + 1) (drop slots s₂)

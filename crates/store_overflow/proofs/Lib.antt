@@ -1,5 +1,4 @@
 pub mod Halving
-pub mod Placing
 pub mod LevelBytes
 pub mod FirstTries
 pub mod Filling

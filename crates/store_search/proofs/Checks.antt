@@ -8,6 +8,7 @@ use lib.ListN.{length, length-map}
 use lib.Dec.{ltb}
 use borrow.Author.Tests.{lt-ltb, le-ltb}
 use Rattle.buffer.specs.Lists.{pick}
+use Rattle.buffer.specs.Sizes.{fourByteLimit}
 use Rattle.buffer.proofs.Sums.{length-pick, count-most}
 use Rattle.matcher.specs.Form.{patternForm, patternNumber, isFine}
 use Rattle.matcher.specs.declared.form.Form.{Form}
@@ -60,12 +61,12 @@ module _ (q : Query) (n : ℕ) (is : n ≡ patternNumber (patternForm (q .patter
       let z : patternNumber (patternForm (q .pattern)) ≡ 0 = omega arith in
       rw (z, le-ltb (q .high) (q .low) k)
 
-number-small : (f : Form) → patternNumber f < 4294967296
+number-small : (f : Form) → patternNumber f < fourByteLimit
 number-small Fine = omega arith
 number-small TooLong = omega arith
 number-small Malformed = omega arith
 
-pub pattern-small : (f : Form) (n : ℕ) → n ≡ patternNumber f → n < 4294967296
+pub pattern-small : (f : Form) (n : ℕ) → n ≡ patternNumber f → n < fourByteLimit
 pattern-small f n e = omega (arith, number-small f)
 
 pub fine-pattern : (q : Query) → queryNumber q ≡ 0 → isFine (patternForm (q .pattern)) ≡ true

@@ -10,7 +10,7 @@ use trie_write::insert::insert_suffix;
 ghost use mathlib.Core.Path.{_≡_};
 ghost use Prim.Native.Nat.{ℕ, _+_, _≤_, _<_};
 ghost use lib.ListN.{length};
-ghost use Rattle.buffer.specs.Sizes.{referenceSize};
+ghost use Rattle.buffer.specs.Sizes.{referenceSize, fourByteLimit};
 ghost use Rattle.trie_read.specs.Sizes.{headSize};
 ghost use Rattle.trie_add.specs.Sizes.{growthSize};
 ghost use Rattle.trie_read.specs.Shape.{keyOf};
@@ -27,7 +27,7 @@ fn add_suffix(
     path: &[u8],
     reference: &[u8],
 ) -> usize
-    requires { ⌜ (node + headSize ≤ body) × (body ≤ next) × (next ≤ used) × (used + growthSize + length (now value) + length (now path) ≤ length (now s)) × (length (now s) < 4294967296) ⌝ }
+    requires { ⌜ (node + headSize ≤ body) × (body ≤ next) × (next ≤ used) × (used + growthSize + length (now value) + length (now path) ≤ length (now s)) × (length (now s) < fourByteLimit) ⌝ }
     requires { ⌜ (length (now value) < 256) × (length (now path) < 256) × (length (now reference) ≡ referenceSize) ⌝ }
     ensures { λ r. ⌜ ((depth : ℕ) → Grown (now (s .entry)) node 0 body next used depth (keyOf (now (value .entry)) (now (path .entry)) (now (reference .entry))) (now (s .exit)) r) ⌝ }
 {
@@ -49,7 +49,7 @@ fn extend_body(
     path: &[u8],
     reference: &[u8],
 ) -> usize
-    requires { ⌜ (node + headSize ≤ body) × (body ≤ next) × (next ≤ used) × (used + growthSize + length (now value) + length (now path) ≤ length (now s)) × (length (now s) < 4294967296) ⌝ }
+    requires { ⌜ (node + headSize ≤ body) × (body ≤ next) × (next ≤ used) × (used + growthSize + length (now value) + length (now path) ≤ length (now s)) × (length (now s) < fourByteLimit) ⌝ }
     requires { ⌜ (length (now value) < 256) × (length (now path) < 256) × (length (now reference) ≡ referenceSize) ⌝ }
     ensures { λ r. ⌜ Grown (now (s .entry)) node kind body next used depth (keyOf (now (value .entry)) (now (path .entry)) (now (reference .entry))) (now (s .exit)) r ⌝ }
 {
@@ -79,7 +79,7 @@ fn visit_node(
     path: &[u8],
     reference: &[u8],
 ) -> usize
-    requires { ⌜ (node + headSize ≤ start) × (start ≤ body) × (body ≤ next) × (next ≤ used) × (used + growthSize + length (now value) + length (now path) ≤ length (now s)) × (length (now s) < 4294967296) ⌝ }
+    requires { ⌜ (node + headSize ≤ start) × (start ≤ body) × (body ≤ next) × (next ≤ used) × (used + growthSize + length (now value) + length (now path) ≤ length (now s)) × (length (now s) < fourByteLimit) ⌝ }
     requires { ⌜ (kind < 256) × (start < node + headSize + 256) × (body < start + 256) × (length (now value) < 256) × (length (now path) < 256) × (length (now reference) ≡ referenceSize) ⌝ }
     ensures { λ r. ⌜ AddedAt (now (s .entry)) node kind start body next used above depth (keyOf (now (value .entry)) (now (path .entry)) (now (reference .entry))) (now (s .exit)) r ⌝ }
 {
@@ -128,7 +128,7 @@ pub fn add(
     path: &[u8],
     reference: &[u8],
 ) -> usize
-    requires { ⌜ (off ≤ stop) × (stop ≤ used) × (used + growthSize + length (now value) + length (now path) ≤ length (now s)) × (length (now s) < 4294967296) ⌝ }
+    requires { ⌜ (off ≤ stop) × (stop ≤ used) × (used + growthSize + length (now value) + length (now path) ≤ length (now s)) × (length (now s) < fourByteLimit) ⌝ }
     requires { ⌜ (length (now value) < 256) × (length (now path) < 256) × (length (now reference) ≡ referenceSize) ⌝ }
     ensures { λ r. ⌜ Added (now (s .entry)) off stop used above depth (keyOf (now (value .entry)) (now (path .entry)) (now (reference .entry))) (now (s .exit)) r ⌝ }
 {

@@ -15,7 +15,7 @@ ghost use lib.ListN.{length, take, drop};
 ghost use lib.Dec.{ltb};
 ghost use Rattle.buffer.specs.Splice.{splice, region};
 ghost use Rattle.trie_theory.specs.Dimensions.{branching};
-ghost use Rattle.buffer.specs.Sizes.{referenceSize};
+ghost use Rattle.buffer.specs.Sizes.{referenceSize, fourByteLimit};
 ghost use Rattle.trie_read.specs.Sizes.{headSize};
 ghost use Rattle.trie_add.specs.Sizes.{growthSize, frontsSize};
 ghost use Rattle.trie_read.specs.Shape.{aboveOf, keyOf, part};
@@ -129,7 +129,7 @@ pub fn split(
     path: &[u8],
     reference: &[u8],
 ) -> usize
-    requires { ⌜ (at + headSize ≤ start) × (start ≤ body) × (body ≤ next) × (next ≤ used) × (used + growthSize + length (now value) + length (now path) ≤ length (now s)) × (length (now s) < 4294967296) ⌝ }
+    requires { ⌜ (at + headSize ≤ start) × (start ≤ body) × (body ≤ next) × (next ≤ used) × (used + growthSize + length (now value) + length (now path) ≤ length (now s)) × (length (now s) < fourByteLimit) ⌝ }
     requires { ⌜ (kind < 256) × (start < at + headSize + 256) × (body < start + 256) × (length (now value) < 256) × (length (now path) < 256) × (length (now reference) ≡ referenceSize) ⌝ }
     ensures { λ r. ⌜ r ≤ growthSize + length (now (value .entry)) + length (now (path .entry)) ⌝ }
     ensures { λ r. ⌜ Replaced (now (s .entry)) at next used (splitBytes (aboveOf above) kind (part (at + headSize) start (now (s .entry)) ∷ part start body (now (s .entry)) ∷ []) (region (now (s .entry)) body (next - body)) (keyOf (now (value .entry)) (now (path .entry)) (now (reference .entry)))) (now (s .exit)) r ⌝ }

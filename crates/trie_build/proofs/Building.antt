@@ -3,13 +3,14 @@
 use mathlib.Core.Path.{_≡_, refl, sym, ap, _∙_}
 use mathlib.Core.Bool.{true}
 use mathlib.Core.Option.{Option, none, some}
-use Prim.Native.Nat.{ℕ, zero, suc, _+_, _*_, _-_, _^_, _≤_, _<_}
+use Prim.Native.Nat.{ℕ, zero, suc, _+_, _*_, _-_, _≤_, _<_}
 use mathlib.Core.List.{List, _++_, map}
 use native.Mathlib.Omega.{arith}
 use lib.ListN.{length, getD, take, drop, length-append, length-drop}
 use lib.Seq.{drop-drop, getD-drop}
 use lib.Dec.{eqb}
 use Rattle.buffer.specs.Lists.{All, nil, flat}
+use Rattle.buffer.specs.Sizes.{fourByteLimit}
 use Rattle.buffer.specs.Splice.{splice, region}
 use Rattle.buffer.proofs.Lists.{all-imp, all-pick, all-append, all-test, all-tested}
 use Rattle.buffer.proofs.Digits.{length-bytesOf}
@@ -160,7 +161,7 @@ module _ {s : List ℕ} {out slots scratch n τ above v p : ℕ} (a : Ready s ou
 
   -- its body is not longer than all
   body-room : (b : List ℕ) → trieBytes τ above v p ks ≡ headBytes kind (length a0) (length a1) (length b) ++ ((a0 ++ a1) ++ b)
-      → (body + length b ≤ slots) × (length b < 2 ^ 32)
+      → (body + length b ≤ slots) × (length b < fourByteLimit)
   body-room b e =
       let head : List ℕ = headBytes kind (length a0) (length a1) (length b) in
       let l4 = length-bytesOf 4 (length b) in
@@ -197,7 +198,7 @@ module _ {s : List ℕ} {out slots scratch n τ above v p : ℕ} (a : Ready s ou
     pub leaf-room : body + length (restsBytes value path (slotsAt slots n s₁)) ≤ slots
     leaf-room = rw rests (body-room (leafBody ks) leaf-is .0)
 
-    pub leaf-small : length (restsBytes value path (slotsAt slots n s₁)) < 2 ^ 32
+    pub leaf-small : length (restsBytes value path (slotsAt slots n s₁)) < fourByteLimit
     leaf-small = rw rests (body-room (leafBody ks) leaf-is .1)
 
     pub leaf-done : (s₂ s₃ : List ℕ) (stop : ℕ) → s₂ ≡ splice s₁ body (restsBytes value path (slotsAt slots n s₁))
@@ -229,7 +230,7 @@ module _ {s : List ℕ} {out slots scratch n τ above v p : ℕ} (a : Ready s ou
     pub inner-room : body + length (bytesFor τ d (shared ks) (parts d ks)) ≤ slots
     inner-room = body-room (innerBody τ d ks) inner-is .0
 
-    pub inner-small : length (bytesFor τ d (shared ks) (parts d ks)) < 2 ^ 32
+    pub inner-small : length (bytesFor τ d (shared ks) (parts d ks)) < fourByteLimit
     inner-small = body-room (innerBody τ d ks) inner-is .1
 
     module _ {s₂ : List ℕ} (t : Parted s₁ slots scratch n (columnOf kind value path) s₂) where

@@ -10,6 +10,7 @@ use Rattle.buffer.specs.Splice.{region}
 use Rattle.buffer.proofs.Tests.{and-left, and-right, and-both}
 use Rattle.rows.specs.Entry.{Entry, fitsRow}
 use Rattle.rows.specs.Records.{records}
+use Rattle.rows.proofs.Rows.{fits}
 use Rattle.entries.specs.Keys.{entryKey}
 use Rattle.entries.specs.Slots.{slotSize, slot, slotKey, shortPath}
 use Rattle.entries.proofs.Slots.{records-slots, slot-key, slot-short}
@@ -22,7 +23,9 @@ keys-each (e ∷ es) h = ap₂ _∷_ (slot-key e (and-left (fitsRow e) (all fits
 
 short-each : (es : List Entry) → all fitsRow es ≡ true → all shortPath (map slot es) ≡ true
 short-each [] h = refl
-short-each (e ∷ es) h = and-both (slot-short e (and-left (fitsRow e) (all fitsRow es) h)) (short-each es (and-right (fitsRow e) (all fitsRow es) h))
+short-each (e ∷ es) h =
+    let f = fits e (and-left (fitsRow e) (all fitsRow es) h) in
+    and-both (slot-short e (f .short) (f .full)) (short-each es (and-right (fitsRow e) (all fitsRow es) h))
 
 module _ (s : List ℕ) (at : ℕ) (es : List Entry) (h : all fitsRow es ≡ true) (e : region s at (length es * slotSize) ≡ flat (map slot es)) where
   slots-are : records slotSize (length es) (drop at s) ≡ map slot es

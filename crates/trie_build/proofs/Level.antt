@@ -1,10 +1,11 @@
 -- The whole level: it fits its room, and the builder of a set at the root writes it. Assumes nothing.
 use mathlib.Core.Path.{_≡_, refl}
 use mathlib.Core.Bool.{true}
-use Prim.Native.Nat.{ℕ, zero, suc, _+_, _*_, _^_, _≤_, _<_}
+use Prim.Native.Nat.{ℕ, zero, suc, _+_, _*_, _≤_, _<_}
 use mathlib.Core.List.{List, []}
 use native.Mathlib.Omega.{arith}
 use lib.ListN.{length, take, drop, length-drop}
+use Rattle.buffer.specs.Sizes.{fourByteLimit}
 use Rattle.buffer.specs.Splice.{region}
 use Rattle.buffer.proofs.Splice.{length-region}
 use Rattle.rows.specs.Records.{records}
@@ -58,7 +59,7 @@ module _ (s : List ℕ) (slots n τ : ℕ) (short : shortPaths n (drop slots s) 
       go (suc m) h =
           rw (keysOf-suc m (drop slots s)) (root-bytes τ (slotKey (take slotSize (drop slots s))) (keysOf m (drop slotSize (drop slots s))) (rw (keysOf-suc m (drop slots s)) at (shared-two (suc m) (drop slots s) h)))
 
-  pub level-ready : (out scratch : ℕ) → 0 < n → out + trieRoom * n ≤ slots → slots + n * slotSize ≤ scratch → scratch + n * slotSize ≤ length s → trieRoom * n < 2 ^ 32
+  pub level-ready : (out scratch : ℕ) → 0 < n → out + trieRoom * n ≤ slots → slots + n * slotSize ≤ scratch → scratch + n * slotSize ≤ length s → trieRoom * n < fourByteLimit
       → Ready s out slots scratch n τ 0 0 0
   level-ready out scratch h r a i m =
       record {

@@ -1,10 +1,11 @@
 -- What the private functions of the builder ask for and promise each other. Callers of `build_level` need none of it. Assumes nothing: these
 -- are definitions.
-use Prim.Native.Nat.{ℕ, zero, suc, _+_, _*_, _^_, _≤_, _<_}
+use Prim.Native.Nat.{ℕ, zero, suc, _+_, _*_, _≤_, _<_}
 use mathlib.Core.Path.{_≡_}
 use mathlib.Core.Bool.{true}
 use mathlib.Core.List.{List, [], _∷_, _++_}
 use lib.ListN.{length, getD, take, drop}
+use Rattle.buffer.specs.Sizes.{fourByteLimit}
 use Rattle.buffer.specs.Splice.{splice}
 use Rattle.matcher.specs.Bytes.{pathLimit}
 use Rattle.rows.specs.Sizes.{valueSize, pathAt}
@@ -58,4 +59,4 @@ pub record Ready (s : List ℕ) (out slots scratch n τ above vabove pabove : �
   pub room : out + length (trieBytes τ above vabove pabove (keysOf n (drop slots s))) ≤ slots
   pub apart : slots + n * slotSize ≤ scratch
   pub inside : scratch + n * slotSize ≤ length s
-  pub small : length (trieBytes τ above vabove pabove (keysOf n (drop slots s))) < 2 ^ 32
+  pub small : length (trieBytes τ above vabove pabove (keysOf n (drop slots s))) < fourByteLimit

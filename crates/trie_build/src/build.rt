@@ -10,8 +10,9 @@ use trie_sets::positions::Shape;
 use trie_sets::positions::split;
 ghost use mathlib.Core.Path.{_≡_};
 ghost use mathlib.Core.Bool.{true};
-ghost use Prim.Native.Nat.{_+_, _*_, _^_, _≤_, _<_};
+ghost use Prim.Native.Nat.{_+_, _*_, _≤_, _<_};
 ghost use lib.ListN.{length, drop};
+ghost use Rattle.buffer.specs.Sizes.{fourByteLimit};
 ghost use Rattle.entries.specs.Slots.{slotSize};
 ghost use Rattle.trie_theory.specs.Strings.{at};
 ghost use Rattle.trie_theory.specs.Position.{shared};
@@ -121,7 +122,7 @@ pub fn build_level(
     n: usize,
     tau: usize,
 ) -> usize
-    requires { ⌜ (shortPaths n (drop slots (now s)) ≡ true) × (out + trieRoom * n ≤ slots) × (slots + n * slotSize ≤ scratch) × (scratch + n * slotSize ≤ length (now s)) × (trieRoom * n < 2 ^ 32) ⌝ }
+    requires { ⌜ (shortPaths n (drop slots (now s)) ≡ true) × (out + trieRoom * n ≤ slots) × (slots + n * slotSize ≤ scratch) × (scratch + n * slotSize ≤ length (now s)) × (trieRoom * n < fourByteLimit) ⌝ }
     ensures { λ r. ⌜ Built (now (s .entry)) out slots scratch n (encode (levelOf 2 tau (keysOf n (drop slots (now (s .entry)))))) (now (s .exit)) × (r ≡ length (encode (levelOf 2 tau (keysOf n (drop slots (now (s .entry))))))) ⌝ }
 {
     if n == 0 {

@@ -10,9 +10,10 @@ use rows::sizes::VALUE_SIZE;
 use trie_read::head::wide;
 use trie_read::sizes::SUFFIX_SIZE;
 ghost use mathlib.Core.Path.{_≡_};
-ghost use Prim.Native.Nat.{ℕ, _+_, _-_, _*_, _^_, _≤_, _<_};
+ghost use Prim.Native.Nat.{ℕ, _+_, _-_, _*_, _≤_, _<_};
 ghost use mathlib.Core.List.{_++_};
 ghost use lib.ListN.{length};
+ghost use Rattle.buffer.specs.Sizes.{fourByteLimit};
 ghost use Rattle.buffer.specs.Splice.{splice, region};
 ghost use Rattle.rows.specs.Sizes.{valueSize, pathAt};
 ghost use Rattle.entries.specs.Slots.{slotSize};
@@ -23,7 +24,7 @@ ghost use Rattle.trie_build.specs.Nodes.{headBytes, rest, restsBytes, Be
 
 // The bytes of a node before its strings.
 pub(crate) fn put_head(s: &mut [u8], at: usize, kind: usize, value: usize, path: usize, size: usize)
-    requires { ⌜ (at + headSize ≤ length (now s)) × (kind < 256) × (value < 256) × (path < 256) × (size < 2 ^ 32) ⌝ }
+    requires { ⌜ (at + headSize ≤ length (now s)) × (kind < 256) × (value < 256) × (path < 256) × (size < fourByteLimit) ⌝ }
     ensures { λ _. ⌜ now (s .exit) ≡ splice (now (s .entry)) at (headBytes kind value path size) ⌝ }
 {
     s[at] = kind as u8;

@@ -2,6 +2,7 @@
 ghost use mathlib.Core.Path.{_≡_};
 ghost use Prim.Native.Nat.{_<_};
 ghost use lib.ListN.{length};
+ghost use Rattle.buffer.specs.Sizes.{fourByteLimit};
 ghost use Rattle.trie_theory.specs.Forest.{Forest};
 ghost use Rattle.trie_theory.specs.Encode.{Regular, encode};
 ghost use Rattle.trie_read.specs.Heads.{headOf, Inside};
@@ -27,7 +28,7 @@ pub fn wide(b: u8) -> usize
 }
 
 pub fn wide32(x: u32) -> usize
-    ensures { λ r. ⌜ (r ≡ x) × (r < 4294967296) ⌝ }
+    ensures { λ r. ⌜ (r ≡ x) × (r < fourByteLimit) ⌝ }
 {
     x as usize
 }

@@ -45,27 +45,6 @@ some-key n above k (inner d s children more) h w a =
     let r = some-key n (below d) (join k s) children (h .2) (omega (arith, h .1)) (all-left (keys (join k s) children) (keys k more) a) in
     (r .0, r .1, prefixes-trans (join k s) (join (join k s) (top children)) (r .0 .strings) (prefixes-join (join k s) (top children)) (r .2))
 
--- each trie has one
-pub keys-many : (n : ℕ) (above : Above) (k : Strings) (f : Forest) → Sound n above f → length (tops f) ≤ length (keys k f)
-unfolding Sound tops keys
-keys-many n above k none h = omega arith
-keys-many n above k (leaf s ts more) h =
-    omega (
-      arith,
-      h .1,
-      keys-many n above k more (h .3),
-      length-append (map (under (join k s)) ts) (keys k more),
-      length-map ts (under (join k s)),
-    )
-keys-many n above k (inner d s children more) h =
-    omega (
-      arith,
-      h .1,
-      keys-many n (below d) (join k s) children (h .2),
-      keys-many n above k more (h .3),
-      length-append (keys (join k s) children) (keys k more),
-    )
-
 -- its keys have n strings
 pub wide-keys : (n : ℕ) (above : Above) (f : Forest) → Sound n above f → All (Wide n) (keys [] f)
 unfolding Sound keys join under
@@ -100,6 +79,16 @@ nodes-known n above k (inner d s children more) h =
       nodes-known n above k more (h .3),
       length-append (keys (join k s) children) (keys k more),
     )
+
+tops-nodes : (f : Forest) → length (tops f) ≤ nodes f
+unfolding tops nodes
+tops-nodes none = omega arith
+tops-nodes (leaf s ts more) = omega (arith, tops-nodes more)
+tops-nodes (inner d s children more) = omega (arith, tops-nodes more)
+
+-- each tree has a key
+pub keys-many : (n : ℕ) (above : Above) (k : Strings) (f : Forest) → Sound n above f → length (tops f) ≤ length (keys k f)
+keys-many n above k f h = omega (arith, nodes-known n above k f h, tops-nodes f)
 
 -- a byte to begin with, except at the root
 spare : Above → ℕ

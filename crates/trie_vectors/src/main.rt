@@ -22,6 +22,7 @@ use trie_read::suffixes::read_suffix;
 ghost use mathlib.Core.Path.{_≡_};
 ghost use Prim.Native.Nat.{_+_, _≤_, _<_};
 ghost use lib.ListN.{length};
+ghost use Rattle.buffer.specs.Sizes.{fourByteLimit};
 ghost use Rattle.rows.specs.Sizes.{referenceSize};
 ghost use Rattle.logline.specs.Sizes.{referenceDigits};
 
@@ -150,7 +151,7 @@ fn draw_suffixes(body: &[u8], indent: usize) {
 
 // Draws tries side by side: the first, what stands below it, and the others.
 fn draw(t: &[u8], indent: usize)
-    requires { ⌜ indent + length (now t) < 4294967296 ⌝ }
+    requires { ⌜ indent + length (now t) < fourByteLimit ⌝ }
 {
     match read_head(t) {
         Head::Node {
@@ -176,7 +177,7 @@ fn draw(t: &[u8], indent: usize)
 
 // Draws the trie, says how many bytes it has, and clears them.
 fn end_set(s: &mut [u8], used: usize)
-    requires { ⌜ (used ≤ length (now s)) × (length (now s) < 4294967296) ⌝ }
+    requires { ⌜ (used ≤ length (now s)) × (length (now s) < fourByteLimit) ⌝ }
 {
     print_number(used as u64);
     print_text(b" bytes\n");
@@ -196,7 +197,7 @@ fn ask(s: &[u8], used: usize, value: &[u8], path: &[u8], reference: &[u8])
 
 // Adds a key to the trie in the first `used` bytes and answers how many it has now.
 fn grow(s: &mut [u8], used: usize, value: &[u8], path: &[u8], reference: &[u8]) -> usize
-    requires { ⌜ (used ≤ length (now s)) × (length (now s) < 4294967296) ⌝ }
+    requires { ⌜ (used ≤ length (now s)) × (length (now s) < fourByteLimit) ⌝ }
     requires { ⌜ (length (now value) < 256) × (length (now path) < 256) × (length (now reference) ≡ referenceSize) ⌝ }
     ensures { λ r. ⌜ r ≤ length (now (s .exit)) ⌝ }
 {
@@ -210,7 +211,7 @@ fn grow(s: &mut [u8], used: usize, value: &[u8], path: &[u8], reference: &[u8]) 
 
 // An entry as a key: its value in bytes, its path with the end byte.
 fn apply(s: &mut [u8], used: usize, asks: bool, value: u64, path: &[u8], reference: &[u8]) -> usize
-    requires { ⌜ (used ≤ length (now s)) × (length (now s) < 4294967296) × (length (now reference) ≡ referenceSize) ⌝ }
+    requires { ⌜ (used ≤ length (now s)) × (length (now s) < fourByteLimit) × (length (now reference) ≡ referenceSize) ⌝ }
     ensures { λ r. ⌜ r ≤ length (now (s .exit)) ⌝ }
 {
     if PATH_LIMIT < path.len() {
@@ -238,7 +239,7 @@ fn apply_line(
     at: usize,
     path: usize,
 ) -> usize
-    requires { ⌜ (used ≤ length (now s)) × (length (now s) < 4294967296) × (at + referenceDigits ≤ length (now line)) ⌝ }
+    requires { ⌜ (used ≤ length (now s)) × (length (now s) < fourByteLimit) × (at + referenceDigits ≤ length (now line)) ⌝ }
     ensures { λ r. ⌜ r ≤ length (now (s .exit)) ⌝ }
 {
     let mut reference = [0u8; REFERENCE_SIZE];
@@ -254,7 +255,7 @@ fn apply_line(
 }
 
 fn read_line(s: &mut [u8], used: usize, asks: bool, line: &[u8]) -> usize
-    requires { ⌜ (used ≤ length (now s)) × (length (now s) < 4294967296) ⌝ }
+    requires { ⌜ (used ≤ length (now s)) × (length (now s) < fourByteLimit) ⌝ }
     ensures { λ r. ⌜ r ≤ length (now (s .exit)) ⌝ }
 {
     let command = logline::reader::parse(line);
@@ -276,7 +277,7 @@ fn print_title(line: &[u8]) {
 }
 
 fn step(s: &mut [u8], used: usize, line: &[u8]) -> usize
-    requires { ⌜ (used ≤ length (now s)) × (length (now s) < 4294967296) ⌝ }
+    requires { ⌜ (used ≤ length (now s)) × (length (now s) < fourByteLimit) ⌝ }
     ensures { λ r. ⌜ r ≤ length (now (s .exit)) ⌝ }
 {
     if line.len() == 0 {
@@ -310,7 +311,7 @@ fn line_end(text: &[u8], from: usize) -> usize
 }
 
 fn run(s: &mut [u8], text: &[u8])
-    requires { ⌜ length (now s) < 4294967296 ⌝ }
+    requires { ⌜ length (now s) < fourByteLimit ⌝ }
 {
     let mut used: usize = 0;
     let mut at: usize = 0;

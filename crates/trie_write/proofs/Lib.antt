@@ -1,2 +1,3 @@
 pub mod NewLeaf
+pub mod Inserting
 pub mod Differing

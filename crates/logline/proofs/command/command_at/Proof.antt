@@ -47,7 +47,7 @@ returns-6 c =
     let f = there (a .s .now) (a .at) _ (c .before .before .before .before .before .before .before .before .field-end .ensures) (c .before .before .before .before .before .before .before .if3 .left) in
     let p = sym (c .before .before .before .before .before .is-only .ensures) ∙ c .before .before .before .before .if4 .left in
     let q = sym (c .before .before .is-only2 .ensures) ∙ c .before .if5 .left in
-    rw (n, f, p, q) (c .read-setup .ensures)
+    rw (n, f, p, q) (rw (f _) at (c .read-setup .ensures))
 
 pub command-at-spec : {M : Type 1} → statement M
 command-at-spec =

@@ -4,7 +4,7 @@ use native.Mathlib.Omega.{arith}
 use mathlib.Core.Path.{_∙_}
 use lib.ListN.{length-set}
 use Rattle.rows.specs.Entry.{entry}
-use Rattle.store_overflow.proofs.Placing.{slot-put}
+use Rattle.entries.proofs.Slots.{slot-put}
 use Rattle.store_overflow.proofs.slots.put_slot.Statement.{statement}
 use Rattle.store_overflow.proofs.slots.put_slot.Tie as tie
 

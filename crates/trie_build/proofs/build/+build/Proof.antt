@@ -1,12 +1,13 @@
 -- The builder calls itself on each part; the undecided bytes of the set fall. Assumes nothing.
 use borrow.Author.Needs.{needs}
 use native.Mathlib.Omega.{arith}
-use Prim.Native.Nat.{ℕ, _+_, _*_, _-_, _^_, _≤_, _<_}
+use Prim.Native.Nat.{ℕ, _+_, _*_, _-_, _≤_, _<_}
 use mathlib.Core.Path.{_≡_, _∙_}
 use mathlib.Core.List.{List}
 use lib.ListN.{length, drop}
 use borrow.Fn.Kinds.{In}
 use borrow.Fn.PlainCycle.{Measures, is, falls, and}
+use Rattle.buffer.specs.Sizes.{fourByteLimit}
 use Rattle.entries.specs.Slots.{slotSize}
 use Rattle.trie_theory.specs.Forest.{Key}
 use Rattle.trie_theory.proofs.Fall.{undecided}
@@ -256,7 +257,7 @@ stop : (t : ℕ) (c : Ended t) → let l = c .before in
     let n = node t b in
     let a = n .before .before .before .before .before .args in
     let r = n .before .before .open-node .result in
-    (a .out + 7 + (r .value - a .vabove) + (r .path - a .pabove) ≤ l .loop .o) × (l .loop .o - (a .out + 7 + (r .value - a .vabove) + (r .path - a .pabove)) < 2 ^ 32)
+    (a .out + 7 + (r .value - a .vabove) + (r .path - a .pabove) ≤ l .loop .o) × (l .loop .o - (a .out + 7 + (r .value - a .vabove) + (r .path - a .pabove)) < fourByteLimit)
 stop t c =
     let l = c .before in
     let b = l .before in
