@@ -1,4 +1,5 @@
 pub mod Compare
+pub mod Words
 pub mod Sorted
 pub mod Records
 pub mod Keys
