@@ -6,7 +6,7 @@ use mathlib.Core.Bool.{Bool, true, false}
 use lib.ListN.{length, take, drop, getD}
 use Rattle.glob.specs.Bytes.{slash}
 use Rattle.glob.specs.Labels.{labelsOf}
-use Rattle.glob.specs.Fit.{afterSome, fitsLabel}
+use Rattle.glob.specs.Fit.{afterSome, fitsLabel, fitLabels}
 use Rattle.glob.specs.declared.fit.Trial.{Trial}
 use Rattle.glob.specs.declared.fit.Trial.the-variants.{Fits, Fails, Never}
 
@@ -42,4 +42,16 @@ pub record Cut (s : List ℕ) (r : ℕ) : Type 0 where
   pub low : 1 ≤ r
   pub high : r ≤ length s
   pub labels : labelsOf s ≡ take (r - 1) (drop 1 s) ∷ labelsOf (take (length s - r) (drop r s))
+  pub begun : Begun (take (length s - r) (drop r s))
+
+-- from place `from` of s up to place r, which is at most one past the end, what is left of s, where a label begins or s has ended, fits the labels
+-- ps of a pattern nowhere
+pub record Passed (ps : List (List ℕ)) (s : List ℕ) (from r : ℕ) : Type 0 where
+  pub low : from ≤ r
+  pub high : r ≤ length s + 1
+  pub no-fit : (i : ℕ) → from ≤ i → i < r → Begun (take (length s - i) (drop i s)) → fitLabels ps (labelsOf (take (length s - i) (drop i s))) ≡ false
+
+-- .. and at r a label begins, or s has ended
+pub record Begins (ps : List (List ℕ)) (s : List ℕ) (from r : ℕ) : Type 0 where
+  pub passed : Passed ps s from r
   pub begun : Begun (take (length s - r) (drop r s))
