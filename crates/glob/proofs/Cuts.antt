@@ -6,7 +6,6 @@ use mathlib.Core.Logic.{⊎-elim}
 use Prim.Native.Nat.{ℕ, zero, suc, _+_, _-_, _*_, _<_, _≤_}
 use native.Mathlib.Decide.{decLe}
 use native.Mathlib.Nat.{lt-of-not-le}
-use native.Mathlib.Numerals.{add-one}
 use native.Mathlib.Omega.{arith}
 use lib.ListN.{length, take, drop, getD, drop-of-length-le}
 use lib.Seq.{drop-drop, getD-drop}
@@ -16,7 +15,7 @@ use Rattle.buffer.specs.Lists.{none}
 use Rattle.glob.specs.Bytes.{slash, star}
 use Rattle.glob.specs.Labels.{upToSlash, labelsOf, deep}
 use Rattle.glob.specs.Fit.{afterSome, first, fit, fitsLabel, fitLabels}
-use Rattle.glob.specs.Inner.{Says, Begun, Cut, Passed, Begins}
+use Rattle.glob.specs.Inner.{Says, Begun, Cut, OffLabels}
 use Rattle.glob.specs.declared.fit.Trial.{Trial}
 use Rattle.buffer.proofs.Tests.{and-false, not-both, same?}
 use Rattle.glob.proofs.Parts.{tail-part, no-items, front, back, back-step, back-end, length-back, step}
@@ -151,7 +150,7 @@ pub begun-end : (s : List ℕ) (b : ℕ) → length s ≤ b → Begun (back s b)
 begun-end s b l f = absurd (f (back-end s b l))
 
 -- k does not hold of the labels from b on: the first of them is taken
-pub tried-label : (k : List (List ℕ) → Bool) (s : List ℕ) (u : List (List ℕ)) (b : ℕ) → b ≤ length s → Begun (back s b) → k (labelsOf (back s b)) ≡ false
+tried-label : (k : List (List ℕ) → Bool) (s : List ℕ) (u : List (List ℕ)) (b : ℕ) → b ≤ length s → Begun (back s b) → k (labelsOf (back s b)) ≡ false
     → Tried k (length s) b (labelsOf (back s b)) u → Tried k (length s) (b + 1) (labelsOf (back s (b + 1))) u
 tried-label k s u b l g e y =
     tried-on k (length s) b (b + 1) (upToSlash (back s (b + 1))) (labelsOf (back s b)) (labelsOf (back s (b + 1))) u l
@@ -165,52 +164,19 @@ tried-byte k s u b l n y =
     let same : labelsOf (back s b) ≡ labelsOf (back s (b + 1)) = ap labelsOf (back-step s b l) ∙ rw (ne-eqb (getD s b 0) slash n) in
     (λ m r z. y .0 (omega arith) r (subst (λ (t : List (List ℕ)). Says (afterSome k) t r) (sym same) z), λ m. absurd (omega arith))
 
--- places passed over: none, one more, and all up to the next `/`
-module _ (ps : List (List ℕ)) (s : List ℕ) (from : ℕ) where
-  pub pass-none : from ≤ length s + 1 → Passed ps s from from
-  pass-none l = record { low = omega arith; high = l; no-fit = λ j g h. absurd (omega arith) }
+-- one place more, of which this is known
+pub tried-place : (ps : List (List ℕ)) (s : List ℕ) (u : List (List ℕ)) (b : ℕ) → b ≤ length s → OffLabels ps s b
+    → Tried (fitLabels ps) (length s) b (labelsOf (back s b)) u → Tried (fitLabels ps) (length s) (b + 1) (labelsOf (back s (b + 1))) u
+tried-place ps s u b l e y = elim (decLe (length s) b) [ yes z ↦ tried-label (fitLabels ps) s u b l (begun-end s b z) (e (begun-end s b z)) y | no z ↦ inside (lt-of-not-le z) ]
+  where
+    inside : b < length s → Tried (fitLabels ps) (length s) (b + 1) (labelsOf (back s (b + 1))) u
+    inside m =
+        ⊎-elim (λ (z : getD s b 0 ≡ slash). tried-label (fitLabels ps) s u b l (begun-at s b m z) (e (begun-at s b m z)) y)
+        (λ (z : getD s b 0 ≡ slash → ⊥). tried-byte (fitLabels ps) s u b m z y) (same? (getD s b 0) slash)
 
-  pub pass-on : (i : ℕ) → i < length s → (Begun (back s i) → fitLabels ps (labelsOf (back s i)) ≡ false) → Passed ps s from i → Passed ps s from (i + 1)
-  pass-on i l e a =
-      record {
-        low = omega (arith, a .low);
-        high = omega (arith, l);
-        no-fit = λ j g h. ⊎-elim (λ (z : j ≡ i). rw z e) (λ (z : j ≡ i → ⊥). a .no-fit j g (omega arith)) (same? j i);
-      }
-
-  pub pass-up : (i r : ℕ) → r ≡ i + length (upToSlash (drop i s)) → r ≤ i + (length s - i) → Passed ps s from i → Begins ps s from r
-  pass-up i r h l a =
-      record {
-        passed = record {
-          low = omega (arith, a .low);
-          high = omega (arith, a .high);
-          no-fit = λ j g m. elim (decLe i j) [ yes z ↦ λ e. absurd (up-none (drop i s) (j - i) (omega arith) (getD-drop i s (j - i) 0 ∙ ap (λ (n : ℕ). getD s n 0) (omega arith) ∙ slash-at s j (omega arith) e)) | no z ↦ a .no-fit j g (lt-of-not-le z) ];
-        };
-        begun = begun-next s i r h;
-      }
-
--- .. and `**` takes the labels that begin there
-module _ (ps : List (List ℕ)) (s : List ℕ) (u : List (List ℕ)) where
-  abbrev TriedLabels : ℕ → Type 0
-  TriedLabels b = Tried (fitLabels ps) (length s) b (labelsOf (back s b)) u
-
-  -- one place more
-  tried-place : (b : ℕ) → b ≤ length s → (Begun (back s b) → fitLabels ps (labelsOf (back s b)) ≡ false) → TriedLabels b → TriedLabels (b + 1)
-  tried-place b l e y = elim (decLe (length s) b) [ yes z ↦ tried-label (fitLabels ps) s u b l (begun-end s b z) (e (begun-end s b z)) y | no z ↦ inside (lt-of-not-le z) ]
-    where
-      inside : b < length s → TriedLabels (b + 1)
-      inside m =
-          ⊎-elim (λ (z : getD s b 0 ≡ slash). tried-label (fitLabels ps) s u b l (begun-at s b m z) (e (begun-at s b m z)) y)
-          (λ (z : getD s b 0 ≡ slash → ⊥). tried-byte (fitLabels ps) s u b m z y) (same? (getD s b 0) slash)
-
-  pub tried-begins : (from r : ℕ) → Passed ps s from r → TriedLabels from → TriedLabels r
-  tried-begins from zero a y = subst TriedLabels (omega (arith, a .low)) y
-  tried-begins from (suc r) a y =
-      ⊎-elim (λ (z : from ≡ suc r). subst TriedLabels z y)
-      (λ (z : from ≡ suc r → ⊥). subst TriedLabels (add-one r)
-      (tried-place r (omega (arith, a .high)) (a .no-fit r (omega (arith, a .low)) (omega arith))
-      (tried-begins from r (record { low = omega (arith, a .low); high = omega (arith, a .high); no-fit = λ j g h. a .no-fit j g (omega arith) }) y)))
-      (same? from (suc r))
+-- up to the next `/` no label begins
+pub off-up : (ps : List (List ℕ)) (s : List ℕ) (i r : ℕ) → r ≡ i + length (upToSlash (drop i s)) → r ≤ i + (length s - i) → (j : ℕ) → i ≤ j → j < r → OffLabels ps s j
+off-up ps s i r h l j z m e = absurd (up-none (drop i s) (j - i) (omega arith) (getD-drop i s (j - i) 0 ∙ ap (λ (n : ℕ). getD s n 0) (omega arith) ∙ slash-at s j (omega arith) e))
 
 pub first-cut : (f : List ℕ → Bool) (k : List (List ℕ) → Bool) (s : List ℕ) (b : ℕ) (r : Trial) → Cut s b → f (front s b) ≡ true → Says k (labelsOf (back s b)) r → Says (first f k) (labelsOf s) r
 first-cut f k s b r h e y =
@@ -258,8 +224,8 @@ short-law (x ∷ c ∷ p) (y ∷ d ∷ s) l f w v m g = absurd (omega arith)
 -- the first label of a pattern begins with a byte of its own
 module _ (p s : List ℕ) (l : 1 < length p) (f : Begun p) (w : getD p 1 0 ≡ star → ⊥) where
   -- and the label at i with another
-  pub unlike-at : (i : ℕ) → i + 1 < length s → eqb (getD s (i + 1) 0) (getD p 1 0) && eqb (getD s i 0) slash ≡ false → Begun (back s i) → fitLabels (labelsOf p) (labelsOf (back s i)) ≡ false
-  unlike-at i m n g =
+  pub off-unlike : (i : ℕ) → i + 1 < length s → eqb (getD s (i + 1) 0) (getD p 1 0) && eqb (getD s i 0) slash ≡ false → OffLabels (labelsOf p) s i
+  off-unlike i m n g =
       let k = length-back s i in
       let next : getD (back s i) 1 0 ≡ getD s (i + 1) 0 = ap (λ (t : List ℕ). getD t 1 0) (back-step s i (omega arith) ∙ ap (λ (t : List ℕ). getD s i 0 ∷ t) (back-step s (i + 1) m)) in
       unlike-law p (back s i) l (omega arith) f g w (λ z. not-both (and-true _ _ (eq-eqb _ _ (sym (z ∙ next))) (eq-eqb _ _ (slash-at s i (omega arith) g))) n)
@@ -267,14 +233,6 @@ module _ (p s : List ℕ) (l : 1 < length p) (f : Begun p) (w : getD p 1 0 ≡ s
       and-true : (a b : Bool) → a ≡ true → b ≡ true → a && b ≡ true
       and-true a b x y = rw (x, y)
 
-  -- what is left has one byte, or none
-  pub unlike-end : (i from : ℕ) → length s ≤ i + 1 → (getD p 1 0 ≡ slash → ⊥) → Passed (labelsOf p) s from i → Begins (labelsOf p) s from (length s + 1)
-  unlike-end i from m v a =
-      record {
-        passed = record {
-          low = omega (arith, a .low, a .high);
-          high = omega arith;
-          no-fit = λ j g h. elim (decLe i j) [ yes z ↦ short-law p (back s j) l f w v (omega (arith, length-back s j)) | no z ↦ a .no-fit j g (lt-of-not-le z) ];
-        };
-        begun = begun-end s (length s + 1) (omega arith);
-      }
+  -- and what is left has one byte, or none
+  pub off-last : (getD p 1 0 ≡ slash → ⊥) → (i : ℕ) → length s ≤ i + 1 → OffLabels (labelsOf p) s i
+  off-last v i m = short-law p (back s i) l f w v (omega (arith, length-back s i))

@@ -6,13 +6,13 @@ use crate::split::is_deep;
 use crate::split::next_slash;
 ghost use mathlib.Core.Path.{_≡_};
 ghost use mathlib.Core.Bool.{true, false, _&&_};
-ghost use Prim.Native.Nat.{_+_, _<_, _≤_};
-ghost use lib.ListN.{length, getD};
+ghost use Prim.Native.Nat.{_+_, _-_, _<_, _≤_};
+ghost use lib.ListN.{length, take, drop, getD};
 ghost use lib.Dec.{eqb};
 ghost use Rattle.glob.specs.Bytes.{slash};
 ghost use Rattle.glob.specs.Labels.{labelsOf};
 ghost use Rattle.glob.specs.Fit.{afterSome, fitsLabel, fitLabels, fitsPath};
-ghost use Rattle.glob.specs.Inner.{Says, isFit, Alike, Skipped, Begun, Begins};
+ghost use Rattle.glob.specs.Inner.{Says, isFit, Alike, Skipped, OffLabel, OffLabels, Begun};
 
 // `Never`: it fails now, and also once any of the first bytes (or labels) are taken away.
 pub(crate) enum Trial {
@@ -55,7 +55,7 @@ fn alike(p: &[u8], s: &[u8]) -> usize
 // `*`. Where there is none, one past the end.
 fn next_try(p: &[u8], s: &[u8], from: usize) -> usize
     requires { ⌜ (length (now p) ≡ 0 → ⊥) × (from ≤ length (now s) + 1) ⌝ }
-    ensures { λ r. ⌜ Skipped (now (p .entry)) (now (s .entry)) from r ⌝ }
+    ensures { λ r. ⌜ Skipped (OffLabel (now (p .entry)) (now (s .entry))) (length (now (s .entry))) from r ⌝ }
 {
     let c = p[0];
     if c == STAR {
@@ -187,7 +187,7 @@ fn begins_with(path: &[u8], i: usize, c: u8) -> bool
 // byte begins the rest's first label; where there is no such place, one past the end. Else it is where any label begins, or the end.
 fn next_begin(pattern: &[u8], path: &[u8], from: usize) -> usize
     requires { ⌜ Begun (now pattern) × (from ≤ length (now path) + 1) ⌝ }
-    ensures { λ r. ⌜ Begins (labelsOf (now (pattern .entry))) (now (path .entry)) from r ⌝ }
+    ensures { λ r. ⌜ Skipped (OffLabels (labelsOf (now (pattern .entry))) (now (path .entry))) (length (now (path .entry))) from r × Begun (take (length (now (path .entry)) - r) (drop r (now (path .entry)))) ⌝ }
 {
     if pattern.len() < 2 {
         return next_slash(path, from);

@@ -13,11 +13,12 @@ use borrow.Fn.Kinds.{In}
 use borrow.Fn.PlainCycle.{Measures, is, falls, and}
 use Rattle.glob.specs.Labels.{labelsOf}
 use Rattle.glob.specs.Fit.{fit, fitsLabel, fitLabels}
-use Rattle.glob.specs.Inner.{Says, Begun, Cut}
+use Rattle.glob.specs.Inner.{Says, Begun, Cut, OffLabels}
 use Rattle.glob.specs.declared.fit.Trial.the-variants.{Fits, Never}
 use Rattle.glob.proofs.Parts.{front, back, back-all}
+use Rattle.glob.proofs.Skips.{through}
 use Rattle.glob.proofs.Trials.{Tried, tried-none, some-none, now-some, never-twice}
-use Rattle.glob.proofs.Cuts.{no-labels, labels-end-law, some-labels, cut-law, cut-falls, deep-law, one-law, tried-label, tried-begins, first-cut, first-not}
+use Rattle.glob.proofs.Cuts.{no-labels, labels-end-law, some-labels, cut-law, cut-falls, deep-law, one-law, tried-place, first-cut, first-not}
 use Rattle.glob.proofs.fit.descend.Reads as descend
 use Rattle.glob.proofs.fit.descend.Kinds as descend-kinds
 use Rattle.glob.proofs.fit.+descend+labels.Lts-descend as descend-lts
@@ -57,8 +58,12 @@ descend-calls t = (next-begin-reads.Pre, next-begin-reads.Post, labels-below t, 
 abbrev labels-calls : ℕ → labels-lts.Claims
 labels-calls t = (begin-unlike-reads.Pre, begin-unlike-reads.Post, next-slash-reads.Asked, next-slash-reads.Learnt, is-deep-reads.Asked, is-deep-reads.Learnt, descend-below t, descend.Post, label-fits-reads.Asked, label-fits-reads.Learnt, labels-below t, labels.Post)
 
+-- `**` has taken the labels that begin before b
+abbrev Taken : List (List ℕ) → List ℕ → ℕ → Type 0
+Taken ps s b = Tried (fitLabels ps) (length s) b (labelsOf (back s b)) (labelsOf s)
+
 abbrev descend-Inv-loop : descend-lts.InvT-loop
-descend-Inv-loop pattern path b₀ b = (b ≤ length path + 1) × Begun (back path b) × Tried (fitLabels (labelsOf pattern)) (length path) b (labelsOf (back path b)) (labelsOf path)
+descend-Inv-loop pattern path b₀ b = (b ≤ length path + 1) × Begun (back path b) × Taken (labelsOf pattern) path b
 
 abbrev descend-μ-loop : descend-lts.MeasureT-loop
 descend-μ-loop pattern path b₀ b = length path + 1 - b
@@ -71,7 +76,7 @@ descend-loop-holds t c =
     let s = c .before .before .before .before .args .path .now in
     let ps = labelsOf (c .before .before .before .before .args .pattern .now) in
     let next = c .next-begin in
-    (search needs, next .ensures .begun, tried-begins ps s (labelsOf s) 0 (next .result) (next .ensures .passed) (tried-none (fitLabels ps) (length s) (labelsOf (back s 0)) (labelsOf s) (ap labelsOf (back-all s))))
+    (next .ensures .0 .high, next .ensures .1, through (OffLabels ps s) (length s) 0 (Taken ps s) (tried-place ps s (labelsOf s)) (next .result) (next .ensures .0) (tried-none (fitLabels ps) (length s) (labelsOf (back s 0)) (labelsOf s) (ap labelsOf (back-all s))))
 
 descend-returns-2 : (t : ℕ) → descend-lts.Need-returns-2 (descend-calls t) (descend-at t) descend.Post descend-Inv-loop descend-μ-loop
 descend-returns-2 t c =
@@ -93,7 +98,7 @@ descend-loop-again t c =
     let inv = c .before .before .before .before .before .before .loop .inv in
     let next = c .next-begin2 in
     let no = subst (Says (fitLabels ps) (labelsOf (back s b))) (c .before .enum-told3 .given .1) (c .before .before .before .labels .ensures) in
-    (search needs, next .ensures .begun, tried-begins ps s (labelsOf s) (b + 1) (next .result) (next .ensures .passed) (tried-label (fitLabels ps) s (labelsOf s) b (omega (arith, c .before .before .before .before .before .loop-test .taken)) (inv .1) no (inv .2)))
+    (next .ensures .0 .high, next .ensures .1, through (OffLabels ps s) (length s) (b + 1) (Taken ps s) (tried-place ps s (labelsOf s)) (next .result) (next .ensures .0) (tried-place ps s (labelsOf s) b (omega (arith, c .before .before .before .before .before .loop-test .taken)) (λ g. no) (inv .2)))
 
 descend-returns-4 : (t : ℕ) → descend-lts.Need-returns-4 (descend-calls t) (descend-at t) descend.Post descend-Inv-loop descend-μ-loop
 descend-returns-4 t c = never-twice (fitLabels (labelsOf (c .before .before .before .before .before .before .args .pattern .now))) (labelsOf (c .before .before .before .before .before .before .args .path .now)) (c .before .loop .inv .2 .1 (omega (arith, c .loop-test .left)))
