@@ -2,20 +2,23 @@
 use mathlib.Core.Path.{_≡_, refl, sym, ap, subst, _∙_}
 use mathlib.Core.List.{List, [], _∷_}
 use mathlib.Core.Bool.{Bool, true, false, cond, _&&_}
-use Prim.Native.Nat.{ℕ, suc, _+_, _-_, _*_, _<_, _≤_}
+use mathlib.Core.Logic.{⊎-elim}
+use Prim.Native.Nat.{ℕ, zero, suc, _+_, _-_, _*_, _<_, _≤_}
+use native.Mathlib.Decide.{decLe}
+use native.Mathlib.Nat.{lt-of-not-le}
 use native.Mathlib.Omega.{arith}
 use lib.ListN.{length, take, drop, getD, drop-of-length-le}
-use lib.Seq.{drop-drop}
+use lib.Seq.{drop-drop, getD-drop}
 use lib.Dec.{eqb}
 use borrow.Author.Tests.{eq-eqb, ne-eqb, eqb-true}
 use Rattle.buffer.specs.Lists.{none}
 use Rattle.glob.specs.Bytes.{slash, star}
 use Rattle.glob.specs.Labels.{upToSlash, labelsOf, deep}
 use Rattle.glob.specs.Fit.{afterSome, first, fit, fitsLabel, fitLabels}
-use Rattle.glob.specs.Inner.{Says, Begun, Cut}
+use Rattle.glob.specs.Inner.{Says, Begun, Cut, OffLabels}
 use Rattle.glob.specs.declared.fit.Trial.{Trial}
-use Rattle.buffer.proofs.Tests.{and-false}
-use Rattle.glob.proofs.Parts.{tail-part, no-items, front, back, back-back, length-back, step}
+use Rattle.buffer.proofs.Tests.{and-false, not-both, same?}
+use Rattle.glob.proofs.Parts.{tail-part, no-items, front, back, back-step, back-end, length-back, step}
 use Rattle.glob.proofs.Trials.{fit-wild, fit-one, byte-law, end-law, Tried, tried-on, first-on, first-off}
 
 -- what stands up to the next `/`, at an index
@@ -43,6 +46,16 @@ count-on s i l e = rw (step s i l, ne-eqb _ _ e)
 
 pub count-end : (s : List ℕ) (i : ℕ) → length s ≤ i → length (labelsOf (drop i s)) ≡ 0
 count-end s i l = ap (λ (t : List ℕ). length (labelsOf t)) (drop-of-length-le s l)
+
+-- in what stands up to the first `/` there is none
+up-none : (t : List ℕ) (j : ℕ) → j < length (upToSlash t) → getD t j 0 ≡ slash → ⊥
+up-none [] j l e = absurd (omega arith)
+up-none (c ∷ t) j l e = go (eqb c slash) refl (up-none t) j l e
+  where
+    go : (b : Bool) → eqb c slash ≡ b → ((m : ℕ) → m < length (upToSlash t) → getD t m 0 ≡ slash → ⊥) → (m : ℕ) → m < length (cond b [] (c ∷ upToSlash t)) → getD (c ∷ t) m 0 ≡ slash → ⊥
+    go true q ih m l e = absurd (omega arith)
+    go false q ih zero l e = not-both (eq-eqb c slash e) q
+    go false q ih (suc m) l e = ih m (omega arith) e
 
 -- a list is what stands up to its first `/`, and then what begins there
 pub take-up : (t : List ℕ) → take (length (upToSlash t)) t ≡ upToSlash t
@@ -126,14 +139,44 @@ cut-falls p s a b h g =
     let m = length-back s b in
     omega arith
 
--- k does not hold of the labels from b on: the first of them, which has e bytes, is taken
-pub tried-cut : (k : List (List ℕ) → Bool) (s : List ℕ) (b e : ℕ) → b ≤ length s → Begun (back s b) → e ≡ 1 + length (upToSlash (drop 1 (back s b))) → e ≤ 1 + (length (back s b) - 1)
-    → k (labelsOf (back s b)) ≡ false → Tried k (length s) b (labelsOf (back s b)) (labelsOf s) → Tried k (length s) (b + e) (labelsOf (back s (b + e))) (labelsOf s)
-tried-cut k s b e l g h m f y =
-    let n = length-back s b in
-    tried-on k (length s) b (b + e) (front (back s b) e) (labelsOf (back s b)) (labelsOf (back s (b + e))) (labelsOf s) l
-    (λ i. cut-law (back s b) e (λ z. omega arith) g h m .labels ∙ ap (λ (t : List ℕ). front (back s b) e ∷ labelsOf t) (back-back s b e))
-    (λ i. ap length (no-labels (back s b) (omega arith))) f y
+-- where a label begins, and at the end
+slash-at : (s : List ℕ) (b : ℕ) → b < length s → Begun (back s b) → getD s b 0 ≡ slash
+slash-at s b l g = subst Begun (back-step s b l) g (λ z. absurd (omega arith))
+
+pub begun-at : (s : List ℕ) (b : ℕ) → b < length s → getD s b 0 ≡ slash → Begun (back s b)
+begun-at s b l e f = ap (λ (t : List ℕ). getD t 0 0) (back-step s b l) ∙ e
+
+pub begun-end : (s : List ℕ) (b : ℕ) → length s ≤ b → Begun (back s b)
+begun-end s b l f = absurd (f (back-end s b l))
+
+-- k does not hold of the labels from b on: the first of them is taken
+tried-label : (k : List (List ℕ) → Bool) (s : List ℕ) (u : List (List ℕ)) (b : ℕ) → b ≤ length s → Begun (back s b) → k (labelsOf (back s b)) ≡ false
+    → Tried k (length s) b (labelsOf (back s b)) u → Tried k (length s) (b + 1) (labelsOf (back s (b + 1))) u
+tried-label k s u b l g e y =
+    tried-on k (length s) b (b + 1) (upToSlash (back s (b + 1))) (labelsOf (back s b)) (labelsOf (back s (b + 1))) u l
+    (λ m. ap labelsOf (back-step s b (omega arith)) ∙ rw (eq-eqb (getD s b 0) slash (slash-at s b (omega arith) g)))
+    (λ m. ap length (no-labels (back s b) (back-end s b (omega arith)))) e y
+
+-- where no label begins, none is taken
+tried-byte : (k : List (List ℕ) → Bool) (s : List ℕ) (u : List (List ℕ)) (b : ℕ) → b < length s → (getD s b 0 ≡ slash → ⊥)
+    → Tried k (length s) b (labelsOf (back s b)) u → Tried k (length s) (b + 1) (labelsOf (back s (b + 1))) u
+tried-byte k s u b l n y =
+    let same : labelsOf (back s b) ≡ labelsOf (back s (b + 1)) = ap labelsOf (back-step s b l) ∙ rw (ne-eqb (getD s b 0) slash n) in
+    (λ m r z. y .0 (omega arith) r (subst (λ (t : List (List ℕ)). Says (afterSome k) t r) (sym same) z), λ m. absurd (omega arith))
+
+-- one place more, of which this is known
+pub tried-place : (ps : List (List ℕ)) (s : List ℕ) (u : List (List ℕ)) (b : ℕ) → b ≤ length s → OffLabels ps s b
+    → Tried (fitLabels ps) (length s) b (labelsOf (back s b)) u → Tried (fitLabels ps) (length s) (b + 1) (labelsOf (back s (b + 1))) u
+tried-place ps s u b l e y = elim (decLe (length s) b) [ yes z ↦ tried-label (fitLabels ps) s u b l (begun-end s b z) (e (begun-end s b z)) y | no z ↦ inside (lt-of-not-le z) ]
+  where
+    inside : b < length s → Tried (fitLabels ps) (length s) (b + 1) (labelsOf (back s (b + 1))) u
+    inside m =
+        ⊎-elim (λ (z : getD s b 0 ≡ slash). tried-label (fitLabels ps) s u b l (begun-at s b m z) (e (begun-at s b m z)) y)
+        (λ (z : getD s b 0 ≡ slash → ⊥). tried-byte (fitLabels ps) s u b m z y) (same? (getD s b 0) slash)
+
+-- up to the next `/` no label begins
+pub off-up : (ps : List (List ℕ)) (s : List ℕ) (i r : ℕ) → r ≡ i + length (upToSlash (drop i s)) → r ≤ i + (length s - i) → (j : ℕ) → i ≤ j → j < r → OffLabels ps s j
+off-up ps s i r h l j z m e = absurd (up-none (drop i s) (j - i) (omega arith) (getD-drop i s (j - i) 0 ∙ ap (λ (n : ℕ). getD s n 0) (omega arith) ∙ slash-at s j (omega arith) e))
 
 pub first-cut : (f : List ℕ → Bool) (k : List (List ℕ) → Bool) (s : List ℕ) (b : ℕ) (r : Trial) → Cut s b → f (front s b) ≡ true → Says k (labelsOf (back s b)) r → Says (first f k) (labelsOf s) r
 first-cut f k s b r h e y =
@@ -167,3 +210,29 @@ unlike-law (x ∷ c ∷ p) (y ∷ []) l m f g w n = absurd (omega arith)
 unlike-law (x ∷ c ∷ p) (y ∷ d ∷ s) l m f g w n =
     rw (eq-eqb x slash (f (λ z. absurd (omega arith))), eq-eqb y slash (g (λ z. absurd (omega arith))), fit-one deep fitsLabel (upToSlash (c ∷ p)) (labelsOf (c ∷ p)) (plain-not-deep c p w))
     (first-off (fitLabels (labelsOf (c ∷ p))) (fitsLabel (upToSlash (c ∷ p))) (upToSlash (d ∷ s)) (labelsOf (d ∷ s)) (unlike-fits c d p s w n))
+
+-- a label that begins with a byte of its own does not fit the empty label, nor is there any other
+short-law : (p t : List ℕ) → 1 < length p → Begun p → (getD p 1 0 ≡ star → ⊥) → (getD p 1 0 ≡ slash → ⊥) → length t ≤ 1 → Begun t → fitLabels (labelsOf p) (labelsOf t) ≡ false
+short-law [] t l f w v m g = absurd (omega arith)
+short-law (x ∷ []) t l f w v m g = absurd (omega arith)
+short-law (x ∷ c ∷ p) [] l f w v m g = rw (eq-eqb x slash (f (λ z. absurd (omega arith))), fit-one deep fitsLabel (upToSlash (c ∷ p)) (labelsOf (c ∷ p)) (plain-not-deep c p w))
+short-law (x ∷ c ∷ p) (y ∷ []) l f w v m g =
+    rw (eq-eqb x slash (f (λ z. absurd (omega arith))), eq-eqb y slash (g (λ z. absurd (omega arith))), fit-one deep fitsLabel (upToSlash (c ∷ p)) (labelsOf (c ∷ p)) (plain-not-deep c p w))
+    (first-off (fitLabels (labelsOf (c ∷ p))) (fitsLabel (upToSlash (c ∷ p))) [] [] (rw (ne-eqb c slash v, byte-law (c ∷ upToSlash p) (λ z. absurd (omega arith)) w)))
+short-law (x ∷ c ∷ p) (y ∷ d ∷ s) l f w v m g = absurd (omega arith)
+
+-- the first label of a pattern begins with a byte of its own
+module _ (p s : List ℕ) (l : 1 < length p) (f : Begun p) (w : getD p 1 0 ≡ star → ⊥) where
+  -- and the label at i with another
+  pub off-unlike : (i : ℕ) → i + 1 < length s → eqb (getD s (i + 1) 0) (getD p 1 0) && eqb (getD s i 0) slash ≡ false → OffLabels (labelsOf p) s i
+  off-unlike i m n g =
+      let k = length-back s i in
+      let next : getD (back s i) 1 0 ≡ getD s (i + 1) 0 = ap (λ (t : List ℕ). getD t 1 0) (back-step s i (omega arith) ∙ ap (λ (t : List ℕ). getD s i 0 ∷ t) (back-step s (i + 1) m)) in
+      unlike-law p (back s i) l (omega arith) f g w (λ z. not-both (and-true _ _ (eq-eqb _ _ (sym (z ∙ next))) (eq-eqb _ _ (slash-at s i (omega arith) g))) n)
+    where
+      and-true : (a b : Bool) → a ≡ true → b ≡ true → a && b ≡ true
+      and-true a b x y = rw (x, y)
+
+  -- and what is left has one byte, or none
+  pub off-last : (getD p 1 0 ≡ slash → ⊥) → (i : ℕ) → length s ≤ i + 1 → OffLabels (labelsOf p) s i
+  off-last v i m = short-law p (back s i) l f w v (omega (arith, length-back s i))

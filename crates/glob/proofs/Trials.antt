@@ -3,9 +3,7 @@
 use mathlib.Core.Path.{_≡_, refl, sym, ap, subst, _∙_}
 use mathlib.Core.List.{List, [], _∷_}
 use mathlib.Core.Bool.{Bool, true, false, cond, _&&_, _||_}
-use mathlib.Core.Logic.{⊎-elim}
-use Prim.Native.Nat.{ℕ, zero, suc, _+_, _<_, _≤_}
-use native.Mathlib.Numerals.{add-one}
+use Prim.Native.Nat.{ℕ, _+_, _<_, _≤_}
 use native.Mathlib.Omega.{arith}
 use lib.ListN.{length, getD}
 use lib.Dec.{eqb}
@@ -13,10 +11,10 @@ use borrow.Author.Tests.{eq-eqb, ne-eqb}
 use Rattle.buffer.specs.Lists.{none}
 use Rattle.glob.specs.Bytes.{star}
 use Rattle.glob.specs.Fit.{afterSome, first, fit, fitsLabel}
-use Rattle.glob.specs.Inner.{Says, isFit, Alike, Skipped}
+use Rattle.glob.specs.Inner.{Says, isFit, Alike, OffLabel}
 use Rattle.glob.specs.declared.fit.Trial.{Trial}
 use Rattle.glob.specs.declared.fit.Trial.the-variants.{Fits, Fails, Never}
-use Rattle.buffer.proofs.Tests.{and-false, or-false, or-left, or-left-false, or-right-false, same?}
+use Rattle.buffer.proofs.Tests.{and-false, or-false, or-left, or-left-false, or-right-false}
 use Rattle.glob.proofs.Parts.{rest, split, back, back-all, back-step, back-back, back-end, no-items}
 
 -- where k never holds, it does not hold now
@@ -115,49 +113,16 @@ end-law p e = ap fitsLabel (no-items p e)
 
 -- p, a label of a pattern that begins with no `*`, begins with another byte than what is left of s, or nothing is left
 module _ (p s : List ℕ) (f : length p ≡ 0 → ⊥) (w : getD p 0 0 ≡ star → ⊥) (i : ℕ) where
-  off-here : i < length s → (getD s i 0 ≡ getD p 0 0 → ⊥) → fitsLabel p (back s i) ≡ false
+  pub off-here : i < length s → (getD s i 0 ≡ getD p 0 0 → ⊥) → OffLabel p s i
   off-here l e = rw (byte-law p f w, back-step s i l) (first-off (fitsLabel (rest p)) (eqb (getD p 0 0)) (getD s i 0) (back s (i + 1)) (ne-eqb _ _ (λ z. e (sym z))))
 
-  off-end : length s ≤ i → fitsLabel p (back s i) ≡ false
+  pub off-end : length s ≤ i → OffLabel p s i
   off-end l = rw (byte-law p f w, no-items (back s i) (back-end s i l))
 
--- places where what is left of s does not fit p: none, one more, and all that are left
-module _ (p s : List ℕ) (from : ℕ) where
-  pub skip-none : from ≤ length s + 1 → Skipped p s from from
-  skip-none l = record { low = omega arith; high = l; no-fit = λ j g h. absurd (omega arith) }
-
-  pub skip-on : (i : ℕ) → (length p ≡ 0 → ⊥) → (getD p 0 0 ≡ star → ⊥) → i < length s → (getD s i 0 ≡ getD p 0 0 → ⊥) → Skipped p s from i → Skipped p s from (i + 1)
-  skip-on i f w l e a =
-      record {
-        low = omega (arith, a .low);
-        high = omega (arith, l);
-        no-fit = λ j g h. ⊎-elim (λ (z : j ≡ i). rw z (off-here p s f w i l e)) (λ (z : j ≡ i → ⊥). a .no-fit j g (omega arith)) (same? j i);
-      }
-
-  pub skip-all : (i : ℕ) → (length p ≡ 0 → ⊥) → (getD p 0 0 ≡ star → ⊥) → length s ≤ i → Skipped p s from i → Skipped p s from (length s + 1)
-  skip-all i f w l a =
-      record {
-        low = omega (arith, a .low, a .high);
-        high = omega arith;
-        no-fit = λ j g h. ⊎-elim (λ (z : j ≡ length s). off-end p s f w j (omega arith)) (λ (z : j ≡ length s → ⊥). a .no-fit j g (omega arith)) (same? j (length s));
-      }
-
--- .. and `*` takes the bytes before them
-module _ (p s u : List ℕ) where
-  abbrev TriedAt : ℕ → Type 0
-  TriedAt i = Tried (fitsLabel p) (length s) i (back s i) u
-
-  pub tried-step : (i : ℕ) → i ≤ length s → fitsLabel p (back s i) ≡ false → TriedAt i → TriedAt (i + 1)
-  tried-step i l e y = tried-on (fitsLabel p) (length s) i (i + 1) (getD s i 0) (back s i) (back s (i + 1)) u l (λ m. back-step s i (omega arith)) (λ m. back-end s i (omega arith)) e y
-
-  pub tried-past : (from r : ℕ) → Skipped p s from r → TriedAt from → TriedAt r
-  tried-past from zero a y = subst TriedAt (omega (arith, a .low)) y
-  tried-past from (suc r) a y =
-      ⊎-elim (λ (z : from ≡ suc r). subst TriedAt z y)
-      (λ (z : from ≡ suc r → ⊥). subst TriedAt (add-one r)
-      (tried-step r (omega (arith, a .high)) (a .no-fit r (omega (arith, a .low)) (omega arith))
-      (tried-past from r (record { low = omega (arith, a .low); high = omega (arith, a .high); no-fit = λ j g h. a .no-fit j g (omega arith) }) y)))
-      (same? from (suc r))
+-- what is left at i does not fit: `*` takes one byte more
+pub tried-step : (p s u : List ℕ) (i : ℕ) → i ≤ length s → OffLabel p s i → Tried (fitsLabel p) (length s) i (back s i) u → Tried (fitsLabel p) (length s) (i + 1) (back s (i + 1)) u
+tried-step p s u i l e y =
+    tried-on (fitsLabel p) (length s) i (i + 1) (getD s i 0) (back s i) (back s (i + 1)) u l (λ m. back-step s i (omega arith)) (λ m. back-end s i (omega arith)) e y
 
 -- nothing is passed over
 pub alike-none : (p s : List ℕ) → Alike p s 0

@@ -6,7 +6,7 @@ use mathlib.Core.Bool.{Bool, true, false}
 use lib.ListN.{length, take, drop, getD}
 use Rattle.glob.specs.Bytes.{slash}
 use Rattle.glob.specs.Labels.{labelsOf}
-use Rattle.glob.specs.Fit.{afterSome, fitsLabel}
+use Rattle.glob.specs.Fit.{afterSome, fitsLabel, fitLabels}
 use Rattle.glob.specs.declared.fit.Trial.{Trial}
 use Rattle.glob.specs.declared.fit.Trial.the-variants.{Fits, Fails, Never}
 
@@ -32,11 +32,15 @@ pub record Plain (l : List ℕ) (n : ℕ) : Type 0 where
   pub in-label : n ≤ length l
   pub passes : (k : List ℕ) → fitsLabel l k ≡ true → (take n k ≡ take n l) × (fitsLabel (drop n l) (drop n k) ≡ true)
 
--- from place `from` of s up to place r, which is at most one past the end, what is left of s fits p, a label of a pattern, nowhere
-pub record Skipped (p s : List ℕ) (from r : ℕ) : Type 0 where
+-- Off holds of each place from `from` up to r, which is at most one past the last place, n
+pub record Skipped (Off : ℕ → Type 0) (n from r : ℕ) : Type 0 where
   pub low : from ≤ r
-  pub high : r ≤ length s + 1
-  pub no-fit : (i : ℕ) → from ≤ i → i < r → fitsLabel p (take (length s - i) (drop i s)) ≡ false
+  pub high : r ≤ n + 1
+  pub each : (i : ℕ) → from ≤ i → i < r → Off i
+
+-- what is left of s at i does not fit p, a label of a pattern
+abbrev pub OffLabel : List ℕ → List ℕ → ℕ → Type 0
+OffLabel p s i = fitsLabel p (take (length s - i) (drop i s)) ≡ false
 
 -- a list that begins with `/`, if it is not empty
 abbrev pub Begun : List ℕ → Type 0
@@ -48,3 +52,7 @@ pub record Cut (s : List ℕ) (r : ℕ) : Type 0 where
   pub high : r ≤ length s
   pub labels : labelsOf s ≡ take (r - 1) (drop 1 s) ∷ labelsOf (take (length s - r) (drop r s))
   pub begun : Begun (take (length s - r) (drop r s))
+
+-- at i of s, if a label begins there or s has ended, what is left does not fit ps, the labels of a pattern
+abbrev pub OffLabels : List (List ℕ) → List ℕ → ℕ → Type 0
+OffLabels ps s i = Begun (take (length s - i) (drop i s)) → fitLabels ps (labelsOf (take (length s - i) (drop i s))) ≡ false

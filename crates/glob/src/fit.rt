@@ -1,15 +1,18 @@
 // Does a path fit a pattern? Calls go deeper only as the pattern gets shorter, so the pattern alone bounds the stack.
 // An answer `Never` stops the wild element before it from trying again, so the time is at most pattern times path.
+use crate::bytes::SLASH;
 use crate::bytes::STAR;
 use crate::split::is_deep;
 use crate::split::next_slash;
 ghost use mathlib.Core.Path.{_≡_};
-ghost use mathlib.Core.Bool.{true, false};
-ghost use Prim.Native.Nat.{_+_, _≤_};
-ghost use lib.ListN.{length};
+ghost use mathlib.Core.Bool.{true, false, _&&_};
+ghost use Prim.Native.Nat.{_+_, _-_, _<_, _≤_};
+ghost use lib.ListN.{length, take, drop, getD};
+ghost use lib.Dec.{eqb};
+ghost use Rattle.glob.specs.Bytes.{slash};
 ghost use Rattle.glob.specs.Labels.{labelsOf};
 ghost use Rattle.glob.specs.Fit.{afterSome, fitsLabel, fitLabels, fitsPath};
-ghost use Rattle.glob.specs.Inner.{Says, isFit, Alike, Skipped, Begun};
+ghost use Rattle.glob.specs.Inner.{Says, isFit, Alike, Skipped, OffLabel, OffLabels, Begun};
 
 // `Never`: it fails now, and also once any of the first bytes (or labels) are taken away.
 pub(crate) enum Trial {
@@ -52,7 +55,7 @@ fn alike(p: &[u8], s: &[u8]) -> usize
 // `*`. Where there is none, one past the end.
 fn next_try(p: &[u8], s: &[u8], from: usize) -> usize
     requires { ⌜ (length (now p) ≡ 0 → ⊥) × (from ≤ length (now s) + 1) ⌝ }
-    ensures { λ r. ⌜ Skipped (now (p .entry)) (now (s .entry)) from r ⌝ }
+    ensures { λ r. ⌜ Skipped (OffLabel (now (p .entry)) (now (s .entry))) (length (now (s .entry))) from r ⌝ }
 {
     let c = p[0];
     if c == STAR {
@@ -169,7 +172,44 @@ fn labels(pattern: &[u8], path: &[u8]) -> Trial
     }
 }
 
-// Descendant matching: tries the rest of a path against `**` and the pattern that remains. `**` takes one label more in each turn.
+// Does a label begin at i, and with the byte c? Most bytes are not c, so this is asked first.
+fn begins_with(path: &[u8], i: usize, c: u8) -> bool
+    requires { ⌜ i + 1 < length (now path) ⌝ }
+    ensures { λ r. ⌜ r ≡ eqb (getD (now (path .entry)) (i + 1) 0) c && eqb (getD (now (path .entry)) i 0) slash ⌝ }
+{
+    if path[i + 1] == c {
+        return path[i] == SLASH;
+    }
+    false
+}
+
+// The next place, from one on, at which the rest of a path may fit a pattern. Where the pattern's first label begins with a byte of its own, that
+// byte begins the rest's first label; where there is no such place, one past the end. Else it is where any label begins, or the end.
+fn next_begin(pattern: &[u8], path: &[u8], from: usize) -> usize
+    requires { ⌜ Begun (now pattern) × (from ≤ length (now path) + 1) ⌝ }
+    ensures { λ r. ⌜ Skipped (OffLabels (labelsOf (now (pattern .entry))) (now (path .entry))) (length (now (path .entry))) from r × Begun (take (length (now (path .entry)) - r) (drop r (now (path .entry)))) ⌝ }
+{
+    if pattern.len() < 2 {
+        return next_slash(path, from);
+    }
+    let c = pattern[1];
+    if c == STAR {
+        return next_slash(path, from);
+    }
+    if c == SLASH {
+        return next_slash(path, from);
+    }
+    let mut i = from;
+    while i + 1 < path.len() {
+        if begins_with(path, i, c) {
+            return i;
+        }
+        i += 1;
+    }
+    path.len() + 1
+}
+
+// Descendant matching: tries the rest of a path against `**` and the pattern that remains. `**` takes one label more, or several, in each turn.
 fn descend(pattern: &[u8], path: &[u8]) -> Trial
     requires { ⌜ Begun (now pattern) × Begun (now path) ⌝ }
     ensures { λ r. ⌜ Says (afterSome (fitLabels (labelsOf (now (pattern .entry))))) (labelsOf (now (path .entry))) r ⌝ }
@@ -177,15 +217,14 @@ fn descend(pattern: &[u8], path: &[u8]) -> Trial
     if pattern.len() == 0 { // the `**` is the last label
         return Trial::Fits; // it takes all labels that are left
     }
-    let mut b = 0;
+    let mut b = next_begin(pattern, path, 0);
     while b <= path.len() {
-        let next = b + next_slash(&path[b..], 1);
         let r = labels(pattern, &path[b..]);
         match r {
             Trial::Fits => return Trial::Fits,
             Trial::Never => return Trial::Never,
             Trial::Fails => {
-                b = next;
+                b = next_begin(pattern, path, b + 1);
             }
         }
     }

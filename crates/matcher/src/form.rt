@@ -10,13 +10,11 @@ use glob::split::is_deep;
 use glob::split::label_count;
 use glob::split::next_slash;
 ghost use mathlib.Core.Path.{_≡_};
-ghost use mathlib.Core.Bool.{not, cond};
-ghost use lib.Dec.{eqb};
 ghost use Rattle.buffer.specs.Lists.{all};
 ghost use Rattle.glob.specs.Inner.{Begun};
 ghost use Rattle.matcher.specs.Bytes.{Marks};
 ghost use Rattle.matcher.specs.Labels.{labelsOf};
-ghost use Rattle.matcher.specs.Form.{apart, patternLabel, formedPath, formedPattern, pathForm, patternForm, isFine, pathNumber, patternNumber};
+ghost use Rattle.matcher.specs.Form.{patternLabel, formedPath, formedPattern, pathForm, patternForm, isFine, pathNumber, patternNumber};
 ghost use Rattle.matcher.specs.Reach.{beginsPath};
 
 // How a path or a pattern is formed. `TooLong`: over 200 bytes, or a pattern with over 32 `/`.

@@ -8,15 +8,16 @@ use Prim.Native.Nat.{ℕ, _+_, _*_, _-_, _<_, _≤_}
 use native.Mathlib.Omega.{arith}
 use lib.ListN.{length, getD}
 use lib.Dec.{eqb}
-use borrow.Author.Tests.{eq-eqb, ne-eqb}
+use borrow.Author.Tests.{ne-eqb}
 use borrow.Author.Needs.{needs}
 use borrow.Fn.Kinds.{In}
 use borrow.Fn.PlainCycle.{Measures, is, falls, and}
 use Rattle.glob.specs.Fit.{first, fitsLabel}
-use Rattle.glob.specs.Inner.{Says}
+use Rattle.glob.specs.Inner.{Says, OffLabel}
 use Rattle.glob.specs.declared.fit.Trial.the-variants.{Fits, Never}
 use Rattle.glob.proofs.Parts.{rest, split, back, back-all, no-items, an-item}
-use Rattle.glob.proofs.Trials.{Tried, tried-none, tried-step, tried-past, some-none, now-some, never-twice, first-off, star-law, byte-law, end-law, alike-first}
+use Rattle.glob.proofs.Skips.{through}
+use Rattle.glob.proofs.Trials.{Tried, tried-none, tried-step, some-none, now-some, never-twice, first-off, star-law, byte-law, end-law, alike-first}
 use Rattle.glob.proofs.fit.after_star.Reads as after-star
 use Rattle.glob.proofs.fit.alike.Reads as alike
 use Rattle.glob.proofs.fit.next_try.Reads as next-try
@@ -53,8 +54,12 @@ after-star-calls t = (next-try.Pre, next-try.Post, label-below t, label.Post)
 abbrev label-calls : ℕ → label-lts.Claims
 label-calls t = (after-star-below t, after-star.Post, alike.Pre, alike.Post, label-below t, label.Post)
 
+-- `*` has taken the bytes before i
+abbrev Taken : List ℕ → List ℕ → ℕ → Type 0
+Taken p s i = Tried (fitsLabel p) (length s) i (back s i) s
+
 abbrev after-star-Inv-loop : after-star-lts.InvT-loop
-after-star-Inv-loop p s i₀ i = (i ≤ length s + 1) × Tried (fitsLabel p) (length s) i (back s i) s
+after-star-Inv-loop p s i₀ i = (i ≤ length s + 1) × Taken p s i
 
 abbrev after-star-μ-loop : after-star-lts.MeasureT-loop
 after-star-μ-loop p s i₀ i = length s + 1 - i
@@ -66,7 +71,7 @@ after-star-loop-holds : (t : ℕ) → after-star-lts.Need-loop-holds (after-star
 after-star-loop-holds t c =
     let p = c .before .before .before .before .args .p .now in
     let s = c .before .before .before .before .args .s .now in
-    (c .next-try .ensures .high, tried-past p s s 0 (c .next-try .result) (c .next-try .ensures) (tried-none (fitsLabel p) (length s) (back s 0) s (back-all s)))
+    (c .next-try .ensures .high, through (OffLabel p s) (length s) 0 (Taken p s) (tried-step p s s) (c .next-try .result) (c .next-try .ensures) (tried-none (fitsLabel p) (length s) (back s 0) s (back-all s)))
 
 after-star-returns-2 : (t : ℕ) → after-star-lts.Need-returns-2 (after-star-calls t) (after-star-at t) after-star.Post after-star-Inv-loop after-star-μ-loop
 after-star-returns-2 t c =
@@ -87,7 +92,7 @@ after-star-loop-again t c =
     let i = c .before .before .before .before .before .before .loop .i in
     let no = subst (Says (fitsLabel p) (back s i)) (c .before .enum-told3 .given .1) (c .before .before .before .label .ensures) in
     let next = c .next-try2 in
-    (next .ensures .high, tried-past p s s (i + 1) (next .result) (next .ensures) (tried-step p s s i (omega (arith, c .before .before .before .before .before .loop-test .taken)) no (c .before .before .before .before .before .before .loop .inv .1)))
+    (next .ensures .high, through (OffLabel p s) (length s) (i + 1) (Taken p s) (tried-step p s s) (next .result) (next .ensures) (tried-step p s s i (omega (arith, c .before .before .before .before .before .loop-test .taken)) no (c .before .before .before .before .before .before .loop .inv .1)))
 
 after-star-returns-4 : (t : ℕ) → after-star-lts.Need-returns-4 (after-star-calls t) (after-star-at t) after-star.Post after-star-Inv-loop after-star-μ-loop
 after-star-returns-4 t c = never-twice (fitsLabel (c .before .before .before .before .before .before .args .p .now)) (c .before .before .before .before .before .before .args .s .now) (c .before .loop .inv .1 .1 (omega (arith, c .loop-test .left)))

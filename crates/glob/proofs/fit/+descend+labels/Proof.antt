@@ -13,11 +13,12 @@ use borrow.Fn.Kinds.{In}
 use borrow.Fn.PlainCycle.{Measures, is, falls, and}
 use Rattle.glob.specs.Labels.{labelsOf}
 use Rattle.glob.specs.Fit.{fit, fitsLabel, fitLabels}
-use Rattle.glob.specs.Inner.{Says, Begun, Cut}
+use Rattle.glob.specs.Inner.{Says, Begun, Cut, OffLabels}
 use Rattle.glob.specs.declared.fit.Trial.the-variants.{Fits, Never}
-use Rattle.glob.proofs.Parts.{front, back, back-all, back-back}
+use Rattle.glob.proofs.Parts.{front, back, back-all}
+use Rattle.glob.proofs.Skips.{through}
 use Rattle.glob.proofs.Trials.{Tried, tried-none, some-none, now-some, never-twice}
-use Rattle.glob.proofs.Cuts.{no-labels, labels-end-law, some-labels, begun-next, cut-law, cut-falls, deep-law, one-law, tried-cut, first-cut, first-not}
+use Rattle.glob.proofs.Cuts.{no-labels, labels-end-law, some-labels, cut-law, cut-falls, deep-law, one-law, tried-place, first-cut, first-not}
 use Rattle.glob.proofs.fit.descend.Reads as descend
 use Rattle.glob.proofs.fit.descend.Kinds as descend-kinds
 use Rattle.glob.proofs.fit.+descend+labels.Lts-descend as descend-lts
@@ -25,6 +26,7 @@ use Rattle.glob.proofs.fit.labels.Reads as labels
 use Rattle.glob.proofs.fit.labels.Kinds as labels-kinds
 use Rattle.glob.proofs.fit.+descend+labels.Lts-labels as labels-lts
 use Rattle.glob.proofs.fit.begin_unlike.Reads as begin-unlike-reads
+use Rattle.glob.proofs.fit.next_begin.Reads as next-begin-reads
 use Rattle.glob.proofs.fit.label_fits.Reads as label-fits-reads
 use Rattle.glob.proofs.split.is_deep.Reads as is-deep-reads
 use Rattle.glob.proofs.split.next_slash.Reads as next-slash-reads
@@ -51,13 +53,17 @@ labels-below t = and 2 labels-kinds.ps (falls 2 labels-kinds.ps _<_ μ-labels t)
 
 -- what the callees of `descend` and of `labels` ask and give
 abbrev descend-calls : ℕ → descend-lts.Claims
-descend-calls t = (next-slash-reads.Asked, next-slash-reads.Learnt, labels-below t, labels.Post)
+descend-calls t = (next-begin-reads.Pre, next-begin-reads.Post, labels-below t, labels.Post)
 
 abbrev labels-calls : ℕ → labels-lts.Claims
 labels-calls t = (begin-unlike-reads.Pre, begin-unlike-reads.Post, next-slash-reads.Asked, next-slash-reads.Learnt, is-deep-reads.Asked, is-deep-reads.Learnt, descend-below t, descend.Post, label-fits-reads.Asked, label-fits-reads.Learnt, labels-below t, labels.Post)
 
+-- `**` has taken the labels that begin before b
+abbrev Taken : List (List ℕ) → List ℕ → ℕ → Type 0
+Taken ps s b = Tried (fitLabels ps) (length s) b (labelsOf (back s b)) (labelsOf s)
+
 abbrev descend-Inv-loop : descend-lts.InvT-loop
-descend-Inv-loop pattern path b₀ b = (b ≤ length path + 1) × Begun (back path b) × Tried (fitLabels (labelsOf pattern)) (length path) b (labelsOf (back path b)) (labelsOf path)
+descend-Inv-loop pattern path b₀ b = (b ≤ length path + 1) × Begun (back path b) × Taken (labelsOf pattern) path b
 
 abbrev descend-μ-loop : descend-lts.MeasureT-loop
 descend-μ-loop pattern path b₀ b = length path + 1 - b
@@ -67,35 +73,35 @@ descend-returns t c = rw (labels-end-law (c .before .before .before .args .patte
 
 descend-loop-holds : (t : ℕ) → descend-lts.Need-loop-holds (descend-calls t) (descend-at t) descend.Post descend-Inv-loop descend-μ-loop
 descend-loop-holds t c =
-    let s = c .before .before .before .args .path .now in
-    let k = fitLabels (labelsOf (c .before .before .before .args .pattern .now)) in
-    let whole = back-all s in
-    (search needs, subst Begun (sym whole) (c .before .before .before .pre .1 .1), tried-none k (length s) (labelsOf (back s 0)) (labelsOf s) (ap labelsOf whole))
+    let s = c .before .before .before .before .args .path .now in
+    let ps = labelsOf (c .before .before .before .before .args .pattern .now) in
+    let next = c .next-begin in
+    (next .ensures .0 .high, next .ensures .1, through (OffLabels ps s) (length s) 0 (Taken ps s) (tried-place ps s (labelsOf s)) (next .result) (next .ensures .0) (tried-none (fitLabels ps) (length s) (labelsOf (back s 0)) (labelsOf s) (ap labelsOf (back-all s))))
 
 descend-returns-2 : (t : ℕ) → descend-lts.Need-returns-2 (descend-calls t) (descend-at t) descend.Post descend-Inv-loop descend-μ-loop
 descend-returns-2 t c =
-    let k = fitLabels (labelsOf (c .before .before .before .before .before .before .before .before .before .before .before .args .pattern .now)) in
-    let l = labelsOf (back (c .before .before .before .before .before .before .before .before .before .before .before .args .path .now) (c .before .before .before .before .before .before .before .loop .b)) in
-    c .before .before .before .before .before .before .before .loop .inv .2 .0 (omega (arith, c .before .before .before .before .before .before .loop-test .taken)) Fits (now-some k l (subst (Says k l) (c .enum-told .given .1) (c .before .before .labels .ensures)))
+    let k = fitLabels (labelsOf (c .before .before .before .before .before .before .before .before .before .before .args .pattern .now)) in
+    let l = labelsOf (back (c .before .before .before .before .before .before .before .before .before .before .args .path .now) (c .before .before .before .before .before .loop .b)) in
+    c .before .before .before .before .before .loop .inv .2 .0 (omega (arith, c .before .before .before .before .loop-test .taken)) Fits (now-some k l (subst (Says k l) (c .enum-told .given .1) (c .before .before .labels .ensures)))
 
 descend-returns-3 : (t : ℕ) → descend-lts.Need-returns-3 (descend-calls t) (descend-at t) descend.Post descend-Inv-loop descend-μ-loop
 descend-returns-3 t c =
-    let k = fitLabels (labelsOf (c .before .before .before .before .before .before .before .before .before .before .before .args .pattern .now)) in
-    let l = labelsOf (back (c .before .before .before .before .before .before .before .before .before .before .before .args .path .now) (c .before .before .before .before .before .before .before .loop .b)) in
-    c .before .before .before .before .before .before .before .loop .inv .2 .0 (omega (arith, c .before .before .before .before .before .before .loop-test .taken)) Never (never-twice k l (subst (Says k l) (c .enum-told2 .given .1) (c .before .before .labels .ensures)))
+    let k = fitLabels (labelsOf (c .before .before .before .before .before .before .before .before .before .before .args .pattern .now)) in
+    let l = labelsOf (back (c .before .before .before .before .before .before .before .before .before .before .args .path .now) (c .before .before .before .before .before .loop .b)) in
+    c .before .before .before .before .before .loop .inv .2 .0 (omega (arith, c .before .before .before .before .loop-test .taken)) Never (never-twice k l (subst (Says k l) (c .enum-told2 .given .1) (c .before .before .labels .ensures)))
 
 descend-loop-again : (t : ℕ) → descend-lts.Need-loop-again (descend-calls t) (descend-at t) descend.Post descend-Inv-loop descend-μ-loop
 descend-loop-again t c =
     let s = c .before .before .before .before .before .before .before .before .before .before .before .args .path .now in
-    let b = c .before .before .before .before .before .before .before .loop .b in
-    let inv = c .before .before .before .before .before .before .before .loop .inv in
-    let next = c .before .before .before .before .next-slash in
-    let k = fitLabels (labelsOf (c .before .before .before .before .before .before .before .before .before .before .before .args .pattern .now)) in
-    let no = subst (Says k (labelsOf (back s b))) (c .enum-told3 .given .1) (c .before .before .labels .ensures) in
-    (search needs, subst Begun (back-back s b (next .result)) (begun-next (back s b) 1 (next .result) (next .ensures .0)), tried-cut k s b (next .result) (omega (arith, c .before .before .before .before .before .before .loop-test .taken)) (inv .1) (next .ensures .0) (next .ensures .1) no (inv .2))
+    let ps = labelsOf (c .before .before .before .before .before .before .before .before .before .before .before .args .pattern .now) in
+    let b = c .before .before .before .before .before .before .loop .b in
+    let inv = c .before .before .before .before .before .before .loop .inv in
+    let next = c .next-begin2 in
+    let no = subst (Says (fitLabels ps) (labelsOf (back s b))) (c .before .enum-told3 .given .1) (c .before .before .before .labels .ensures) in
+    (next .ensures .0 .high, next .ensures .1, through (OffLabels ps s) (length s) (b + 1) (Taken ps s) (tried-place ps s (labelsOf s)) (next .result) (next .ensures .0) (tried-place ps s (labelsOf s) b (omega (arith, c .before .before .before .before .before .loop-test .taken)) (λ g. no) (inv .2)))
 
 descend-returns-4 : (t : ℕ) → descend-lts.Need-returns-4 (descend-calls t) (descend-at t) descend.Post descend-Inv-loop descend-μ-loop
-descend-returns-4 t c = never-twice (fitLabels (labelsOf (c .before .before .before .before .before .args .pattern .now))) (labelsOf (c .before .before .before .before .before .args .path .now)) (c .before .loop .inv .2 .1 (omega (arith, c .loop-test .left)))
+descend-returns-4 t c = never-twice (fitLabels (labelsOf (c .before .before .before .before .before .before .args .pattern .now))) (labelsOf (c .before .before .before .before .before .before .args .path .now)) (c .before .loop .inv .2 .1 (omega (arith, c .loop-test .left)))
 
 -- the first labels, cut off
 labels-cut : (t : ℕ) (c : labels-lts.After-next-slash (labels-calls t) (labels-at t) labels.Post) → Cut (c .before .before .before .before .before .before .args .pattern .now) (c .next-slash .result)
@@ -177,12 +183,8 @@ pub +descend+labels-spec : {M : Type 1} → statement M
     descend-Inv-loop
     descend-μ-loop
     (descend-returns t)
-    (descend-loop-holds t)
-    (λ c. search needs)
-    (λ c. search needs)
-    (λ c. search needs)
     (λ c κs. search needs)
-    (λ c. search needs)
+    (descend-loop-holds t)
     (λ c. search needs)
     (λ c. search needs)
     (λ c. search needs)
@@ -192,6 +194,8 @@ pub +descend+labels-spec : {M : Type 1} → statement M
     (λ c. search needs)
     (descend-returns-3 t)
     (λ c. search needs)
+    (λ c. search needs)
+    (λ c κs. search needs)
     (λ c. search needs)
     (descend-loop-again t)
     (descend-returns-4 t))

@@ -1,41 +1,37 @@
 -- `glob::fit::next_try` meets its contract. The invariant is the contract, of the places passed over so far.
 -- Assumes nothing.
-use Prim.Native.Nat.{_-_}
+use Prim.Native.Nat.{_+_, _-_}
 use native.Mathlib.Omega.{arith}
 use lib.ListN.{length}
 use borrow.Author.Needs.{needs}
-use Rattle.glob.specs.Inner.{Skipped}
-use Rattle.glob.proofs.Trials.{skip-none, skip-on, skip-all}
+use Rattle.glob.specs.Inner.{Skipped, OffLabel}
+use Rattle.glob.proofs.Skips.{skip-none, skip-on, skip-to}
+use Rattle.glob.proofs.Trials.{off-here, off-end}
 use Rattle.glob.proofs.fit.next_try.Statement.{statement}
 use Rattle.glob.proofs.fit.next_try.Tie as tie
 
 abbrev Inv-loop : tie.InvT-loop
-Inv-loop p s from c i₀ i = Skipped p s from i
+Inv-loop p s from c i₀ i = Skipped (OffLabel p s) (length s) from i
 
 abbrev μ-loop : tie.MeasureT-loop
 μ-loop p s from c i₀ i = length s - i
-
-returns : tie.Need-returns Inv-loop μ-loop
-returns c =
-    let e = c .before .before in
-    skip-none (e .args .p .now) (e .args .s .now) (e .args .from) (e .pre .1)
-
-loop-holds : tie.Need-loop-holds Inv-loop μ-loop
-loop-holds c =
-    let e = c .before .before in
-    skip-none (e .args .p .now) (e .args .s .now) (e .args .from) (e .pre .1)
 
 loop-again : tie.Need-loop-again Inv-loop μ-loop
 loop-again c =
     let h = c .before .before .before in
     let e = h .before .before .before in
-    skip-on (e .args .p .now) (e .args .s .now) (e .args .from) (h .loop .i) (e .pre .0) (h .before .if1 .left) (c .before .before .loop-test .taken) (c .if2 .left) (h .loop .inv)
+    let p = e .args .p .now in
+    let s = e .args .s .now in
+    let l = c .before .before .loop-test .taken in
+    skip-on (OffLabel p s) (length s) (e .args .from) (h .loop .i) (omega (arith, l)) (off-here p s (e .pre .0) (h .before .if1 .left) (h .loop .i) l (c .if2 .left)) (h .loop .inv)
 
 returns-3 : tie.Need-returns-3 Inv-loop μ-loop
 returns-3 c =
     let h = c .before in
     let e = h .before .before .before in
-    skip-all (e .args .p .now) (e .args .s .now) (e .args .from) (h .loop .i) (e .pre .0) (h .before .if1 .left) (omega (arith, c .loop-test .left)) (h .loop .inv)
+    let p = e .args .p .now in
+    let s = e .args .s .now in
+    skip-to (OffLabel p s) (length s) (e .args .from) (h .loop .i) (length s + 1) (h .loop .inv .high) (omega arith) (λ j g m. off-end p s (e .pre .0) (h .before .if1 .left) j (omega (arith, c .loop-test .left))) (h .loop .inv)
 
 pub next-try-spec : {M : Type 1} → statement M
 next-try-spec =
@@ -44,8 +40,8 @@ next-try-spec =
     Inv-loop
     μ-loop
     (λ c. search needs)
-    returns
-    loop-holds
+    (λ c. skip-none _ _ _ (c .before .before .pre .1))
+    (λ c. skip-none _ _ _ (c .before .before .pre .1))
     (λ c. search needs)
     (λ c. search needs)
     (λ c. search needs)
