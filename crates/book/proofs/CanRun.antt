@@ -1,13 +1,13 @@
 -- Demand 3 speaks of something: every list of calls that begins with a setup to be accepted can be run, each call keeping its promise.
 use Prim.Native.Nat.{ℕ, zero, suc, _≤_, _<_}
 use mathlib.Core.Path.{_≡_, refl, sym, ap, _∙_, subst}
-use mathlib.Core.Bool.{Bool, true, false}
+use mathlib.Core.Bool.{true}
 use mathlib.Core.List.{List, [], _∷_, _++_}
 use native.Mathlib.Omega.{arith}
 use lib.ListN.{length, take, drop, length-append, length-drop}
 use lib.Seq.{take-at, drop-at, take-take, length-take-le}
-use lib.Dec.{leb, ltb}
-use borrow.Author.Tests.{ltb-true, ltb-false, leb-true}
+use lib.Dec.{leb}
+use borrow.Author.Tests.{leb-true}
 use Rattle.buffer.specs.Lists.{all}
 use Rattle.buffer.specs.Splice.{splice}
 use Rattle.buffer.proofs.Tests.{and-left, and-right}
@@ -27,7 +27,7 @@ use Rattle.book.proofs.Front.{front-back}
 use Rattle.book.proofs.Numbers.{setup-fits}
 use Rattle.book.proofs.Book.{fresh-sound}
 use Rattle.book.proofs.Image.{length-image}
-use Rattle.book.proofs.OneCall.{need-front, front-held, front-read, part-holds, one-call, setup-accepted}
+use Rattle.book.proofs.OneCall.{need-front, front-held, front-read, by-length, part-holds, one-call, setup-accepted}
 use Rattle.book.proofs.Kept.{search-kept, search-foreign, read-kept, read-foreign, stepped, written, after-length, add-kept, add-foreign}
 
 -- a call that was made
@@ -93,40 +93,32 @@ make-setup memory n m l t i = go (setupNumber (length (take n memory)) m l t) re
 module _ {memory : List ℕ} {b : Book} (n : ℕ) (h : HoldsBook memory b) (i : n ≤ length memory) where
   make-search : (q : Query) (answer : List ℕ) → Made memory (search n q answer)
   unfolding typed
-  make-search q answer = go (ltb n (need (b .M) (b .L))) refl
-    where
-      go : (w : Bool) → ltb n (need (b .M) (b .L)) ≡ w → Made memory (search n q answer)
-      go true z =
-          leaves memory (search n q answer) (result (reply (searchNumber (length (take n memory)) (frontOf (take n memory)) q) 0 0) answer) refl i
-          (search-foreign q (take n memory) answer (holds-none n h i (ltb-true n (need (b .M) (b .L)) z)), refl)
-      go false z =
-          let p = part-holds n h i (ltb-false n (need (b .M) (b .L)) z) in
-          leaves memory (search n q answer) (step b (search (length (take n memory)) q answer) .result) refl i (search-kept q answer p, refl)
+  make-search q answer =
+      by-length n (need (b .M) (b .L))
+      (λ z. leaves memory (search n q answer) (result (reply (searchNumber (length (take n memory)) (frontOf (take n memory)) q) 0 0) answer) refl i
+      (search-foreign q (take n memory) answer (holds-none n h i z), refl))
+      (λ z. leaves memory (search n q answer) (step b (search (length (take n memory)) q answer) .result) refl i (search-kept q answer (part-holds n h i z), refl))
 
   make-read : (j : ℕ) (answer : List ℕ) → Made memory (readLevel n j answer)
   unfolding typed
-  make-read j answer = go (ltb n (need (b .M) (b .L))) refl
-    where
-      go : (w : Bool) → ltb n (need (b .M) (b .L)) ≡ w → Made memory (readLevel n j answer)
-      go true z =
-          leaves memory (readLevel n j answer) (result (reply (readNumber (length (take n memory)) (frontOf (take n memory))) 0 0) answer) refl i
-          (read-foreign j (take n memory) answer (holds-none n h i (ltb-true n (need (b .M) (b .L)) z)), refl)
-      go false z =
-          let p = part-holds n h i (ltb-false n (need (b .M) (b .L)) z) in
-          leaves memory (readLevel n j answer) (step b (readLevel (length (take n memory)) j answer) .result) refl i (read-kept j answer p, refl)
+  make-read j answer =
+      by-length n (need (b .M) (b .L))
+      (λ z. leaves memory (readLevel n j answer) (result (reply (readNumber (length (take n memory)) (frontOf (take n memory))) 0 0) answer) refl i
+      (read-foreign j (take n memory) answer (holds-none n h i z), refl))
+      (λ z. leaves memory (readLevel n j answer) (step b (readLevel (length (take n memory)) j answer) .result) refl i (read-kept j answer (part-holds n h i z), refl))
 
   make-add : (e : Entry) → typed (add n e) ≡ true → Made memory (add n e)
-  make-add e t = go (ltb n (need (b .M) (b .L))) refl
+  make-add e t =
+      by-length n (need (b .M) (b .L))
+      (λ z. let f = add-foreign e (take n memory) (holds-none n h i z) in leaves memory (add n e) (result (f .0) []) t i (f .1, refl))
+      enough
     where
       typed-at : typed (add (length (take n memory)) e) ≡ true
       typed-at = rw (length-take-le n memory i) t
 
-      go : (w : Bool) → ltb n (need (b .M) (b .L)) ≡ w → Made memory (add n e)
-      go true z =
-          let f = add-foreign e (take n memory) (holds-none n h i (ltb-true n (need (b .M) (b .L)) z)) in
-          leaves memory (add n e) (result (f .0) []) t i (f .1, refl)
-      go false z =
-          let p = part-holds n h i (ltb-false n (need (b .M) (b .L)) z) in
+      enough : need (b .M) (b .L) ≤ n → Made memory (add n e)
+      enough z =
+          let p = part-holds n h i z in
           writes memory (add n e) (result (step b (add (length (take n memory)) e) .result .reply) []) (written e p typed-at) t i
           (after-length e p typed-at ∙ length-take-le n memory i) (unfold stepped in add-kept e p typed-at, refl)
 

@@ -61,15 +61,19 @@ part-holds {memory} {b} n h i e =
       holds = record { enough = rw (length-take-le n memory i) e; bytes = take-take (need (b .M) (b .L)) n memory e ∙ h .holds .bytes };
     }
 
+-- so many bytes, or fewer
+pub by-length : {P : Type 0} (n m : ℕ) → (n < m → P) → (m ≤ n → P) → P
+by-length {P} n m fewer enough = go (ltb n m) refl
+  where
+    go : (w : Bool) → ltb n m ≡ w → P
+    go true q = fewer (ltb-true n m q)
+    go false q = enough (ltb-false n m q)
+
 -- a shorter one is no store
 part-short : {memory : List ℕ} {b : Book} (n : ℕ) → HoldsBook memory b → n < need (b .M) (b .L) → noStore n (frontOf (take n memory)) ≡ true
-part-short {memory} {b} n h e = go (ltb n frontSize) refl
-  where
-    go : (w : Bool) → ltb n frontSize ≡ w → noStore n (frontOf (take n memory)) ≡ true
-    go true q = no-front n (frontOf (take n memory)) (ltb-true n frontSize q)
-    go false q =
-        rw (front-back (front b) (take n memory) (take-take frontSize n memory (ltb-false n frontSize q) ∙ front-held h))
-        (too-short n (front b) e)
+part-short {memory} {b} n h e =
+    by-length n frontSize (λ q. no-front n (frontOf (take n memory)) q)
+    (λ q. rw (front-back (front b) (take n memory) (take-take frontSize n memory q ∙ front-held h)) (too-short n (front b) e))
 
 -- what is lent begins with the image of a book: the memory holds it
 pub holds-after : (n : ℕ) (memory : List ℕ) {after : List ℕ} {b : Book} → Sound b → need (b .M) (b .L) ≤ n → n ≤ length memory
@@ -168,26 +172,16 @@ add-decided {memory} {after} {n} {e} {r} {b} h d q =
 -- ONE CALL
 pub one-call : {memory after : List ℕ} (c : Call) {r : Result} {b : Book} → HoldsBook memory b → Did memory c r after → Agrees b c r after
 one-call (setup n m l t) h d = setup-call h d
-one-call {memory} {after} (add n e) {r} {b} h d = go (ltb n (need (b .M) (b .L))) refl
-  where
-    go : (w : Bool) → ltb n (need (b .M) (b .L)) ≡ w → Agrees b (add n e) r after
-    go true q = add-refused h (ltb-true n (need (b .M) (b .L)) q) d
-    go false q = add-decided h d (ltb-false n (need (b .M) (b .L)) q)
-one-call {memory} {after} (search n s answer) {r} {b} h d =
+one-call (add n e) {b = b} h d = by-length n (need (b .M) (b .L)) (λ q. add-refused h q d) (λ q. add-decided h d q)
+one-call {memory} {after} (search n s answer) {b = b} h d =
     record {
-      result = go (ltb n (need (b .M) (b .L))) refl;
+      result = by-length n (need (b .M) (b .L)) (λ q. search-refused h q d)
+          (λ q. rw (length-take-le n memory (d .inside)) at (d .promise .0 .ours b (part-holds n h (d .inside) q)));
       holds = rw (search-book b n s answer, same-memory n after memory (d .promise .1) (d .beyond)) h;
     }
-  where
-    go : (w : Bool) → ltb n (need (b .M) (b .L)) ≡ w → r ≡ step b (search n s answer) .result
-    go true q = search-refused h (ltb-true n (need (b .M) (b .L)) q) d
-    go false q = rw (length-take-le n memory (d .inside)) at (d .promise .0 .ours b (part-holds n h (d .inside) (ltb-false n (need (b .M) (b .L)) q)))
-one-call {memory} {after} (readLevel n i answer) {r} {b} h d =
+one-call {memory} {after} (readLevel n i answer) {b = b} h d =
     record {
-      result = go (ltb n (need (b .M) (b .L))) refl;
+      result = by-length n (need (b .M) (b .L)) (λ q. read-refused h q d)
+          (λ q. rw (length-take-le n memory (d .inside)) at (d .promise .0 .ours b (part-holds n h (d .inside) q)));
       holds = rw (read-book b n i answer, same-memory n after memory (d .promise .1) (d .beyond)) h;
     }
-  where
-    go : (w : Bool) → ltb n (need (b .M) (b .L)) ≡ w → r ≡ step b (readLevel n i answer) .result
-    go true q = read-refused h (ltb-true n (need (b .M) (b .L)) q) d
-    go false q = rw (length-take-le n memory (d .inside)) at (d .promise .0 .ours b (part-holds n h (d .inside) (ltb-false n (need (b .M) (b .L)) q)))

@@ -47,21 +47,25 @@ less? a b = elim (decLe b a) [ yes h ↦ inr h | no h ↦ inl (lt-of-not-le h) ]
 abbrev pub Nothing : {A : Type 0} → List A → Type 0
 Nothing ks = ⊥
 
+-- the same keys, told otherwise, of bytes that are known otherwise
+pub put-in : {T : Type 0} {ok : T → Bool} {g : T → List ℕ} {v p w q out room : ℕ} {A B : List T → Type 0} {n r : ℕ} {s k k₁ s' k' : List ℕ}
+    (a : PutBy ok g A w q out room n s k₁ s' k' r) → known v p k' ≡ known v p k → ((ks : List T) → B ks → a .put ≡ ks) → PutBy ok g B v p out room n s k s' k' r
+put-in a kept are =
+    record {
+      put = a .put;
+      fit = a .fit;
+      count = a .count;
+      long = a .long;
+      writes = a .writes;
+      front = a .front;
+      kept = kept;
+      are = are;
+    }
+
 module _ {T : Type 0} {ok : T → Bool} {g : T → List ℕ} {v p out room : ℕ} where
-  -- the same keys, told otherwise
   pub put-as : {A B : List T → Type 0} {n r : ℕ} {s k s' k' : List ℕ} (a : PutBy ok g A v p out room n s k s' k' r)
       → ((ks : List T) → B ks → a .put ≡ ks) → PutBy ok g B v p out room n s k s' k' r
-  put-as a h =
-      record {
-        put = a .put;
-        fit = a .fit;
-        count = a .count;
-        long = a .long;
-        writes = a .writes;
-        front = a .front;
-        kept = a .kept;
-        are = h;
-      }
+  put-as a h = put-in a (a .kept) h
 
   -- none
   unfoldable pub put-none : {A : List T → Type 0} {n : ℕ} {s k k' : List ℕ} → known v p k' ≡ known v p k → ((ks : List T) → A ks → ks ≡ [])

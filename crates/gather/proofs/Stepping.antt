@@ -25,7 +25,7 @@ use Rattle.trie_read.proofs.Stretch.{length-part}
 use Rattle.gather.specs.KeySlots.{endedLimit, hasSlot, keySlot, known, suffixKey}
 use Rattle.gather.specs.Walks.{Put, SuffixKeys, TrieKeys, BodyKeys, Entered, Ready}
 use Rattle.gather.proofs.Filling.{length-slot, slot-kept, known-less}
-use Rattle.gather.proofs.Putting.{Going, Two, put-as, put-none, put-one, going-end, going-on, front-part, part-inside, part-rest}
+use Rattle.gather.proofs.Putting.{Going, Two, put-in, put-as, put-none, put-one, going-end, going-on, front-part, part-inside, part-rest}
 use Rattle.gather.proofs.Splitting.{suffix-end, suffix-bad, suffix-split, pick-one, pick-not, low-keys, trie-end, trie-bad, trie-split, long-body, long-known}
 
 -- a node that is entered has room
@@ -135,16 +135,7 @@ module _ {Has : List Key → Type 0} {from to v p out room n : ℕ} {s₀ k₀ :
             let bytes : part (a + body) (a + next) s ≡ part body next (part a to s₀) = sym (part-inside s a to body next order inside) ∙ ap (part body next) same-tries in
             let below = entered .joins y ∙ known-now in
             going-on l
-            (record {
-              put = i .put;
-              fit = i .fit;
-              count = i .count;
-              long = i .long;
-              writes = i .writes;
-              front = i .front;
-              kept = known-less v p (v + (path - 7)) (p + (body - path)) k' k₁ (omega arith) (omega arith) (i .kept) ∙ entered .kept;
-              are = λ ks h. i .are ks (rw (below, bytes) h);
-            })
+            (put-in i (known-less v p (v + (path - 7)) (p + (body - path)) k' k₁ (omega arith) (omega arith) (i .kept) ∙ entered .kept) (λ ks h. i .are ks (rw (below, bytes) h)))
             split-tries
 
         pub tries-out : b ≡ false → Going keySlot Has (TrieKeys depth (known v p k₀) (part (a + next) to s₀)) v p out room n s₀ k₀ s k₁ m

@@ -23,7 +23,7 @@ use Rattle.trie_read.specs.declared.suffixes.Tail.the-variants.{At}
 use Rattle.trie_read.proofs.Stretch.{length-part}
 use Rattle.gather.specs.KeySlots.{endedLimit, hasSlot, keySlot, known, suffixKey}
 use Rattle.gather.proofs.Filling.{length-slot, slot-kept, known-less}
-use Rattle.gather.proofs.Putting.{GoingBy, put-as, put-none, put-one, going-on}
+use Rattle.gather.proofs.Putting.{GoingBy, put-in, put-as, put-none, put-one, going-on}
 use Rattle.gather.proofs.Splitting.{pick-one, pick-not, long-known}
 use Rattle.read_back.specs.Readings.{nodeSize, recordBytes, isRecord}
 use Rattle.read_back.specs.Walks.{Written, nodeOf, keyRecord, SuffixRecords, TrieRecords, BodyRecords, Descended}
@@ -89,16 +89,7 @@ module _ {Has : List (List ℕ) → Type 0} {n : ℕ} {way : List ℕ} {v p room
       let line : take (nodeSize * (n + 1)) w₁ ≡ way ++ nodeOf (join (known v p k₀) strings) own =
       down .noted y ∙ ap₂ (λ (z : List ℕ) (q : Strings). z ++ nodeOf q own) ways below in
       going-on l
-      (record {
-        put = i .put;
-        fit = i .fit;
-        count = i .count;
-        long = i .long;
-        writes = i .writes;
-        front = i .front;
-        kept = known-less v p (v + (path - 7)) (p + (start - path)) k' k₁ (omega arith) (omega arith) (i .kept) ∙ down .entered .kept;
-        are = λ rs h. i .are rs (rw (line, below) h);
-      })
+      (put-in i (known-less v p (v + (path - 7)) (p + (start - path)) k' k₁ (omega arith) (omega arith) (i .kept) ∙ down .entered .kept) (λ rs h. i .are rs (rw (line, below) h)))
       (below-split is own path start next e)
 
   -- its strings have no room, so no key below it has a slot

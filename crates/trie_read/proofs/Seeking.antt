@@ -163,10 +163,9 @@ module _ {t u : List ℕ} {above at : ℕ} {k : Strings} {f : Forest} {head : He
   told : head ≡ headOf (p .over)
   told = is (p .over) (p .shaped) (l .left)
 
-  -- no sibling is left: the gap is at the end
-  pub seek-end : head ≡ End → Passed t above k f at (λ g x. newLeaf x g)
-  seek-end e =
-      let z : p .over ≡ none = head-end (p .over) (sym e ∙ told) in
+  -- the place is the gap before what is left
+  at-gap : ((x : Key) → x .strings ≡ k → added (aboveOf above) (p .over) x ≡ newLeaf x (p .over)) → Passed t above k f at (λ g x. newLeaf x g)
+  at-gap h =
       record {
         front = p .front;
         over = p .over;
@@ -175,8 +174,14 @@ module _ {t u : List ℕ} {above at : ℕ} {k : Strings} {f : Forest} {head : He
         shaped = p .shaped;
         ascends = p .ascends;
         lower = p .lower;
-        added = λ x q. p .added x q ∙ ap (λ (g : Forest). p .front ++ encode g) (added-none (aboveOf above) (p .over) x z);
+        added = λ x q. p .added x q ∙ ap (λ (g : Forest). p .front ++ encode g) (h x q);
       }
+
+  -- no sibling is left: the gap is at the end
+  pub seek-end : head ≡ End → Passed t above k f at (λ g x. newLeaf x g)
+  seek-end e =
+      let z : p .over ≡ none = head-end (p .over) (sym e ∙ told) in
+      at-gap (λ x q. added-none (aboveOf above) (p .over) x z)
 
   pub seek-bad : head ≡ Bad → ⊥
   seek-bad e = head-good (p .over) (sym e ∙ told)
@@ -206,17 +211,7 @@ module _ {t u : List ℕ} {above at : ℕ} {k : Strings} {f : Forest} {head : He
 
     -- its byte is greater: the gap is before it
     pub seek-gap : branching (aboveOf above) k < branching (aboveOf above) nodeStrings → Passed t above k f at (λ g x. newLeaf x g)
-    seek-gap b =
-        record {
-          front = p .front;
-          over = p .over;
-          bytes = p .bytes;
-          here = p .here;
-          shaped = p .shaped;
-          ascends = p .ascends;
-          lower = p .lower;
-          added = λ x q. p .added x q ∙ ap (λ (g : Forest). p .front ++ encode g) (here .before x (rw (q, ← here .known) b));
-        }
+    seek-gap b = at-gap (λ x q. here .before x (rw (q, ← here .known) b))
 
     -- its byte is less: on to the next
     pub seek-past : branching (aboveOf above) nodeStrings < branching (aboveOf above) k → Seek t above k f (at + next) (part next (length u) u)
