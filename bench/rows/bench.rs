@@ -59,11 +59,33 @@ fn timed(given: &[Record], out: &mut [Record], least: &mut f64, f: impl Fn(&mut 
     *least = least.min(start.elapsed().as_secs_f64());
 }
 
+// The records as they come: in sequence, in reverse, in runs of 60 that are each in sequence, or all equal.
+fn arrange(records: &mut [Record], kind: &str) {
+    match kind {
+        "in sequence" => records.sort_unstable_by(compare),
+        "in reverse" => records.sort_unstable_by(|x, y| compare(y, x)),
+        "runs of 60" => records.chunks_mut(60).for_each(|run| run.sort_unstable_by(compare)),
+        "all equal" => records.fill(records[0]),
+        _ => {}
+    }
+}
+
+const KINDS: [(&str, u64, u64); 7] = [
+    ("random values", 0, 0),
+    ("100 values, own paths", 100, 0),
+    ("100 values, 50 paths", 100, 50),
+    ("runs of 60", 0, 0),
+    ("in sequence", 0, 0),
+    ("in reverse", 0, 0),
+    ("all equal", 1, 1),
+];
+
 fn main() {
     println!("records  kind                      rattle ms   rust ms  ratio");
-    for n in [1_000usize, 10_000, 100_000] {
-        for (kind, values, paths) in [("random values", 0, 0), ("100 values, own paths", 100, 0), ("100 values, 50 paths", 100, 50)] {
-            let given = make(n, values, paths, 7);
+    for n in [100usize, 1_000, 10_000, 100_000] {
+        for (kind, values, paths) in KINDS {
+            let mut given = make(n, values, paths, 7);
+            arrange(&mut given, kind);
             let (mut x, mut y) = (given.clone(), given.clone());
             let (mut a, mut b) = (f64::INFINITY, f64::INFINITY);
             // By turns, so that other load on the machine meets both.
@@ -72,7 +94,7 @@ fn main() {
                 timed(&given, &mut y, &mut b, |s| s.sort_unstable_by(compare));
             }
             assert!(x == y, "results differ");
-            println!("{:7}  {:24} {:10.3} {:9.3} {:6.2}", n, kind, a * 1e3, b * 1e3, a / b);
+            println!("{:7}  {:24} {:10.4} {:9.4} {:6.2}", n, kind, a * 1e3, b * 1e3, a / b);
         }
     }
 }

@@ -2,12 +2,10 @@
 -- for rows and for records. Assumes nothing.
 use mathlib.Core.Path.{_≡_, refl, sym, ap, _∙_}
 use mathlib.Core.Bool.{Bool, true, cond}
-use mathlib.Core.Logic.{_⊎_, inl, inr, ⊎-elim}
+use mathlib.Core.Logic.{⊎-elim}
 use Prim.Native.Nat.{ℕ, zero, suc, _+_, _-_, _*_, _≤_, _<_}
 use mathlib.Core.List.{List, [], _∷_, _++_, append-assoc, append-nil, map}
 use native.Mathlib.Omega.{arith}
-use native.Mathlib.Decide.{decLe}
-use native.Mathlib.Nat.{lt-of-not-le}
 use lib.ListN.{length, take, drop, length-append, length-map}
 use lib.Dec.{ltb}
 use lib.Seq.{take-all, take-append-le, take-take, drop-drop}
@@ -17,6 +15,7 @@ use Rattle.buffer.specs.Splice.{splice}
 use Rattle.buffer.proofs.Lists.{map-append, flat-append, tested-append}
 use Rattle.buffer.proofs.Splice.{length-splice, splice-then, take-before, region-drop}
 use Rattle.buffer.proofs.Tests.{and-left, and-right, and-both}
+use Rattle.rows.proofs.Compare.{less?}
 use Rattle.rows.proofs.Records.{length-joined, wide, record-inside}
 use Rattle.trie_theory.specs.Forest.{Key}
 use Rattle.trie_read.specs.Shape.{part}
@@ -37,9 +36,6 @@ joined-one g x = append-nil (g x)
 pub joined-none : {A : Type 0} (g : A → List ℕ) → joined g [] ≡ []
 unfolding joined flat
 joined-none g = refl
-
-less? : (a b : ℕ) → (a < b) ⊎ (b ≤ a)
-less? a b = elim (decLe b a) [ yes h ↦ inr h | no h ↦ inl (lt-of-not-le h) ]
 
 -- ---- the steps
 

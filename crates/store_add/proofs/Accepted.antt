@@ -1,8 +1,8 @@
 -- What an addition that no check refuses has, in figures. Assumes nothing.
-use mathlib.Core.Path.{_≡_, refl}
+use mathlib.Core.Path.{_≡_}
 use mathlib.Core.Bool.{true, false}
-use Prim.Native.Nat.{ℕ, suc, _+_, _*_, _-_, _^_, _≤_, _<_}
-use mathlib.Core.List.{List, [], _∷_}
+use Prim.Native.Nat.{ℕ, _+_, _*_, _-_, _^_, _≤_, _<_}
+use mathlib.Core.List.{List}
 use native.Mathlib.Omega.{arith}
 use lib.ListN.{length, getD}
 use lib.Dec.{ltb}
@@ -12,6 +12,7 @@ use Rattle.buffer.specs.Numbers.{byte}
 use Rattle.buffer.proofs.Tests.{and-left, and-right, and-both}
 use Rattle.rows.specs.Sizes.{referenceSize}
 use Rattle.rows.specs.Entry.{Entry}
+use Rattle.rows.proofs.Words.{all-bytes}
 use Rattle.book.specs.Front.{Front, frontOf, capacity, noStore, full}
 use Rattle.book.specs.Book.{formed}
 use Rattle.book.specs.Replies.{addNumber}
@@ -21,11 +22,6 @@ use Rattle.book.proofs.Keys.{as-formed, path-short}
 use Rattle.store.proofs.Opening.{stored}
 use Rattle.store_add.specs.Ready.{Ready}
 use Rattle.store_add.proofs.Checks.{capacity-most}
-
--- bytes, element by element
-pub all-bytes : (s : List ℕ) → ((i : ℕ) → getD s i 0 < 256) → all byte s ≡ true
-all-bytes [] h = refl
-all-bytes (b ∷ s) h = and-both (lt-ltb b 256 (h 0)) (all-bytes s (λ i. h (suc i)))
 
 pub is-typed : (n : ℕ) (e : Entry) → e .value < 2 ^ 64 → ((i : ℕ) → getD (e .reference) i 0 < 256) → typed (add n e) ≡ true
 unfolding typed
