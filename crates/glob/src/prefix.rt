@@ -8,6 +8,9 @@ ghost use mathlib.Core.Path.{_≡_};
 ghost use Rattle.glob.specs.Inner.{Plain};
 ghost use Rattle.glob.specs.Prefix.{LiteralPrefix, differs};
 
+// So many bytes tell nearly all paths apart that more would; to find more takes longer than it spares.
+const ENOUGH: usize = 16;
+
 // How many bytes of a label of a pattern stand before its first `*`?
 fn plain_length(l: &[u8]) -> usize
     ensures { λ r. ⌜ Plain (now (l .entry)) r ⌝ }
@@ -22,8 +25,8 @@ fn plain_length(l: &[u8]) -> usize
     i
 }
 
-// How many bytes stand before the first `*`? The `/` of a `**` is not among them, since that may take no label: `/a/**` fits `/a`.
-// 0 where the pattern does not begin with `/`.
+// How many bytes stand before the first `*`, at most some labels with ENOUGH? The `/` of a `**` is not among them, since that may take no
+// label: `/a/**` fits `/a`. 0 where the pattern does not begin with `/`.
 pub fn literal_prefix(pattern: &[u8]) -> usize
     ensures { λ r. ⌜ LiteralPrefix (now (pattern .entry)) r ⌝ }
 {
@@ -32,9 +35,12 @@ pub fn literal_prefix(pattern: &[u8]) -> usize
     }
     let mut a = 0;
     while a < pattern.len() {
+        if ENOUGH <= a {
+            return a; // enough
+        }
         let b = a + next_slash(&pattern[a..], 1);
         if is_deep(&pattern[a + 1..b]) {
-            return a;
+            return a; // it may take no label
         }
         let n = a + 1 + plain_length(&pattern[a + 1..b]);
         if n < b {

@@ -4,7 +4,7 @@ use mathlib.Core.Bool.{true, false, _&&_, and-comm}
 use Prim.Native.Nat.{ℕ, zero, suc, _+_, _-_, _*_, _/_, _^_, _≤_, _<_}
 use mathlib.Core.List.{List, [], _∷_, _++_, append-nil}
 use native.Mathlib.Omega.{arith}
-use native.Mathlib.Nat.{add-mul, one-mul, mul-assoc, le-div-iff-mul-le, div-lt-iff-lt-mul, one-le-pow, zero-lt-suc, pow-le-pow-right}
+use native.Mathlib.Nat.{add-mul, one-mul, mul-assoc, le-div-iff-mul-le, div-lt-iff-lt-mul, one-le-pow, zero-lt-suc, pow-le-pow-right, div-div-eq-div-mul}
 use lib.ListN.{length, take, drop, getD, replicate, length-append, length-replicate}
 use lib.Pow.{pow-add}
 use lib.Seq.{take-all, length-take-le}
@@ -152,10 +152,9 @@ module _ (q : Query) (k : List ℕ) (n from to : ℕ) (short : length k + n ≤ 
             s .are (number r) ∙ rw (low-end r long, high-end r long, le-leb (length (k ++ r)) valueSize (omega (arith, both-long r long)));
       }
 
-  pub spans-from : (first width : ℕ) → first ≡ number (k ++ replicate (valueSize - length k) 0) → width ≡ 256 ^ left
-      → Steps (q .low) (q .high) first width from to → Spans q k n from to
+  pub spans-from : (first : ℕ) → first ≡ number (k ++ replicate (valueSize - length k) 0) → Steps (q .low) (q .high) first (256 ^ left) from to → Spans q k n from to
   unfolding lowest
-  spans-from first width e f s = spans (rw (e, f) at s)
+  spans-from first e s = spans (rw e at s)
 
 -- ---- the answer by the span
 
@@ -216,13 +215,11 @@ number-all s i h = ap number (take-all i s h)
 
 -- ---- powers
 
-pub power-more : (i : ℕ) → 256 ^ i * 256 ≡ 256 ^ (i + 1)
+power-more : (i : ℕ) → 256 ^ i * 256 ≡ 256 ^ (i + 1)
 power-more i = sym (pow-add 256 i 1)
 
-pub power-room : (i : ℕ) → i < 7 → 256 ^ i * 256 < 18446744073709551616
-power-room i h =
-    let p : 256 ^ i ≤ 256 ^ 6 = pow-le-pow-right (zero-lt-suc 255) {i = i} {j = 6} (omega arith) in
-    omega (arith, p)
+pub byte-less : (x i : ℕ) → x / 256 ^ i / 256 ≡ x / 256 ^ (i + 1)
+byte-less x i = div-div-eq-div-mul x (256 ^ i) 256 ∙ ap (λ (w : ℕ). x / w) (power-more i)
 
 pub power-positive : (i : ℕ) → 0 < 256 ^ i
 power-positive i = one-le-pow i 256 (zero-lt-suc 255)

@@ -53,21 +53,32 @@ pub struct Span {
     pub to: u64,
 }
 
-// How many whole steps of a width lie below `low`, counted from `first` on?
-fn steps_below(low: u64, first: u64, width: u64) -> u64
-    requires { ⌜ 0 < width ⌝ }
-    ensures { λ r. ⌜ r ≡ (low - first) / width ⌝ }
+// A number without its last n bytes. A division by a power that is not known to the compiler takes longer.
+fn without_last(x: u64, n: usize) -> u64
+    ensures { λ r. ⌜ r ≡ x / 256 ^ n ⌝ }
+{
+    let mut y = x;
+    let mut i: usize = 0;
+    while i < n {
+        y /= 256;
+        i += 1;
+    }
+    y
+}
+
+// How many whole steps of 256^n lie below `low`, counted from `first` on?
+fn steps_below(low: u64, first: u64, n: usize) -> u64
+    ensures { λ r. ⌜ r ≡ (low - first) / 256 ^ n ⌝ }
 {
     if first < low {
-        return (low - first) / width;
+        return without_last(low - first, n);
     }
     0
 }
 
-// The steps of a width, counted from `first` on, in which values of the range lie.
-fn steps(low: u64, high: u64, first: u64, width: u64) -> Span
-    requires { ⌜ 0 < width ⌝ }
-    ensures { λ r. ⌜ Steps low high first width (r .from) (r .to) ⌝ }
+// The steps of 256^n, counted from `first` on, in which values of the range lie: so many values begin with the same 8 - n bytes.
+fn steps(low: u64, high: u64, first: u64, n: usize) -> Span
+    ensures { λ r. ⌜ Steps low high first (256 ^ n) (r .from) (r .to) ⌝ }
 {
     if high < low {
         return Span { from: 1, to: 0 };
@@ -76,23 +87,9 @@ fn steps(low: u64, high: u64, first: u64, width: u64) -> Span
         return Span { from: 1, to: 0 };
     }
     Span {
-        from: steps_below(low, first, width),
-        to: (high - first) / width,
+        from: steps_below(low, first, n),
+        to: without_last(high - first, n),
     }
-}
-
-// How many values begin with the same 8 - n bytes?
-fn weight(n: usize) -> u64
-    requires { ⌜ n < valueSize ⌝ }
-    ensures { λ r. ⌜ (r ≡ 256 ^ n) × (0 < r) ⌝ }
-{
-    let mut w: u64 = 1;
-    let mut i: usize = 0;
-    while i < n {
-        w *= 256;
-        i += 1;
-    }
-    w
 }
 
 // Which numbers of n bytes continue the known bytes to a value in range, or to the beginning of one?
@@ -101,7 +98,7 @@ pub(crate) fn span_behind(low: u64, high: u64, known: &[u8], n: usize) -> Span
     ensures { λ r. ⌜ ((pattern : List ℕ) → Spans (asked pattern low high) (now (known .entry)) n (r .from) (r .to)) ⌝ }
 {
     let left = VALUE_SIZE - known.len() - n;
-    steps(low, high, bound(known, 0), weight(left))
+    steps(low, high, bound(known, 0), left)
 }
 
 fn wide(b: u8) -> u64

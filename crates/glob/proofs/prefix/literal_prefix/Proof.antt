@@ -24,31 +24,32 @@ loop-holds : tie.Need-loop-holds Inv-loop μ-loop
 loop-holds c =
     led-none (c .before .before .before .args .pattern .now) (λ f. sym (c .before .byte-at .ensures) ∙ c .if1 .left)
 
+-- where the loop stops before a label: the bytes so far
 returns-2 : tie.Need-returns-2 Inv-loop μ-loop
-returns-2 c =
-    led-prefix (c .before .before .before .before .before .before .before .before .before .before .args .pattern .now) (c .before .before .before .before .before .before .loop .a) (c .before .before .before .before .before .before .loop .inv)
+returns-2 c = led-prefix (c .before .before .before .before .before .before .args .pattern .now) (c .before .before .loop .a) (c .before .before .loop .inv)
 
 returns-3 : tie.Need-returns-3 Inv-loop μ-loop
-returns-3 c =
-    let pattern = c .before .before .before .before .before .before .before .before .before .before .before .before .before .args .pattern .now in
-    let loop = c .before .before .before .before .before .before .before .before .before .loop in
-    stop-inside pattern (loop .a) (c .before .before .before .before .before .before .next-slash .result) (c .before .plain-length .result) (c .before .before .before .before .before .before .before .before .loop-test .taken) (loop .inv) (c .before .before .before .before .before .before .next-slash .ensures .0)
-    (sym (c .before .before .before .before .is-deep .ensures) ∙ c .before .before .before .if2 .left) (c .before .plain-length .ensures)
-
-loop-less : tie.Need-loop-less Inv-loop μ-loop
-loop-less c =
-    omega (arith, c .before .before .before .before .before .before .next-slash .ensures .0, c .before .before .before .before .before .before .before .before .loop-test .taken)
-
-loop-again : tie.Need-loop-again Inv-loop μ-loop
-loop-again c =
-    let pattern = c .before .before .before .before .before .before .before .before .before .before .before .before .before .args .pattern .now in
-    let loop = c .before .before .before .before .before .before .before .before .before .loop in
-    led-on pattern (loop .a) (c .before .before .before .before .before .before .next-slash .result) (c .before .plain-length .result) (c .before .before .before .before .before .before .before .before .loop-test .taken) (loop .inv) (c .before .before .before .before .before .before .next-slash .ensures .0)
-    (sym (c .before .before .before .before .is-deep .ensures) ∙ c .before .before .before .if2 .left) (c .before .plain-length .ensures) (c .if3 .left)
+returns-3 c = led-prefix (c .before .before .before .before .before .before .before .before .before .before .before .args .pattern .now) (c .before .before .before .before .before .before .before .loop .a) (c .before .before .before .before .before .before .before .loop .inv)
 
 returns-4 : tie.Need-returns-4 Inv-loop μ-loop
 returns-4 c =
-    led-prefix (c .before .before .before .before .before .args .pattern .now) (c .before .loop .a) (c .before .loop .inv)
+    let pattern = c .before .before .before .before .before .before .before .before .before .before .before .before .before .before .args .pattern .now in
+    let loop = c .before .before .before .before .before .before .before .before .before .before .loop in
+    stop-inside pattern (loop .a) (c .before .before .before .before .before .before .next-slash .result) (c .before .plain-length .result) (c .before .before .before .before .before .before .before .before .before .loop-test .taken) (loop .inv) (c .before .before .before .before .before .before .next-slash .ensures .0)
+    (sym (c .before .before .before .before .is-deep .ensures) ∙ c .before .before .before .if3 .left) (c .before .plain-length .ensures)
+
+loop-less : tie.Need-loop-less Inv-loop μ-loop
+loop-less c = omega (arith, c .before .before .before .before .before .before .next-slash .ensures .0, c .before .before .before .before .before .before .before .before .before .loop-test .taken)
+
+loop-again : tie.Need-loop-again Inv-loop μ-loop
+loop-again c =
+    let pattern = c .before .before .before .before .before .before .before .before .before .before .before .before .before .before .args .pattern .now in
+    let loop = c .before .before .before .before .before .before .before .before .before .before .loop in
+    led-on pattern (loop .a) (c .before .before .before .before .before .before .next-slash .result) (c .before .plain-length .result) (c .before .before .before .before .before .before .before .before .before .loop-test .taken) (loop .inv) (c .before .before .before .before .before .before .next-slash .ensures .0)
+    (sym (c .before .before .before .before .is-deep .ensures) ∙ c .before .before .before .if3 .left) (c .before .plain-length .ensures) (c .if4 .left)
+
+returns-5 : tie.Need-returns-5 Inv-loop μ-loop
+returns-5 c = led-prefix (c .before .before .before .before .before .args .pattern .now) (c .before .loop .a) (c .before .loop .inv)
 
 pub literal-prefix-spec : {M : Type 1} → statement M
 literal-prefix-spec =
@@ -59,25 +60,26 @@ literal-prefix-spec =
     (λ c κs. search needs)
     returns
     loop-holds
-    (λ c. search needs)
-    (λ c. search needs)
-    (λ c. search needs)
-    (λ c κs. search needs)
-    (λ c. search needs)
-    (λ c. search needs)
-    (λ c. search needs)
-    (λ c. search needs)
-    (λ c. search needs)
-    (λ c κs. search needs)
     returns-2
     (λ c. search needs)
     (λ c. search needs)
     (λ c. search needs)
+    (λ c κs. search needs)
+    (λ c. search needs)
+    (λ c. search needs)
+    (λ c. search needs)
+    (λ c. search needs)
+    (λ c. search needs)
+    (λ c κs. search needs)
+    returns-3
+    (λ c. search needs)
+    (λ c. search needs)
+    (λ c. search needs)
     (λ c. search needs)
     (λ c. search needs)
     (λ c κs. search needs)
     (λ c. search needs)
-    returns-3
+    returns-4
     loop-less
     loop-again
-    returns-4)
+    returns-5)

@@ -7,9 +7,8 @@ use Rattle.search.proofs.value.span_behind.Tie as tie
 
 returns : tie.Need-returns
 returns c =
-    let a = c .before .before .before .before .args in
-    λ pattern. spans-from (asked pattern (a .low) (a .high)) (a .known .now) (a .n) _ _ (c .before .before .before .before .pre .1) _ _ (c .before .before .bound .ensures) (c .before .weight .ensures .0) (c .steps .ensures)
+    let a = c .before .before .before .args in
+    λ pattern. spans-from (asked pattern (a .low) (a .high)) (a .known .now) (a .n) _ _ (c .before .before .before .pre .1) _ (c .before .bound .ensures) (c .steps .ensures)
 
 pub span-behind-spec : {M : Type 1} → statement M
-span-behind-spec =
-    tie.close (tie.spec (λ c. search needs) (λ c. search needs) (λ c κs. search needs) (λ c κs. search needs) (λ c κs. search needs) returns)
+span-behind-spec = tie.close (tie.spec (λ c. search needs) (λ c. search needs) (λ c κs. search needs) (λ c κs. search needs) returns)

@@ -1,8 +1,17 @@
 -- One law for each test. Assumes nothing.
 use borrow.Author.Needs.{needs}
-use Rattle.search.proofs.Ranges.{steps-none, steps-past, steps-are}
+use mathlib.Core.Path.{_≡_, sym, subst}
+use Prim.Native.Nat.{ℕ, _^_}
+use Rattle.search.specs.Spans.{Steps}
+use Rattle.search.proofs.Ranges.{steps-none, steps-past, steps-are, power-positive}
 use Rattle.search.proofs.value.steps.Statement.{statement}
 use Rattle.search.proofs.value.steps.Tie as tie
+
+returns-3 : tie.Need-returns-3
+returns-3 c =
+    let a = c .before .before .before .before .args in
+    subst (λ (to : ℕ). Steps (a .low) (a .high) (a .first) (256 ^ a .n) (c .before .steps-below .result) to) (sym (c .without-last .ensures))
+    (steps-are _ _ _ _ (power-positive (a .n)) (c .before .before .before .if1 .left) (c .before .before .if2 .left) _ (c .before .steps-below .ensures))
 
 pub steps-spec : {M : Type 1} → statement M
 steps-spec =
@@ -12,4 +21,4 @@ steps-spec =
     (λ c. steps-past _ _ _ _ (c .if2 .taken))
     (λ c κs. search needs)
     (λ c. search needs)
-    (λ c. steps-are _ _ _ _ (c .before .before .before .pre) (c .before .before .if1 .left) (c .before .if2 .left) _ (c .steps-below .ensures)))
+    returns-3)
