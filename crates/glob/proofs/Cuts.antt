@@ -7,19 +7,19 @@ use Prim.Native.Nat.{ℕ, zero, suc, _+_, _-_, _*_, _<_, _≤_}
 use native.Mathlib.Decide.{decLe}
 use native.Mathlib.Nat.{lt-of-not-le}
 use native.Mathlib.Omega.{arith}
-use lib.ListN.{length, take, drop, getD, drop-of-length-le}
-use lib.Seq.{drop-drop, getD-drop}
+use lib.ListN.{length, take, drop, getD, drop-of-length-le, length-drop}
+use lib.Seq.{drop-drop, getD-drop, take-all, drop-length}
 use lib.Dec.{eqb}
 use borrow.Author.Tests.{eq-eqb, ne-eqb, eqb-true}
 use Rattle.buffer.specs.Lists.{none}
 use Rattle.glob.specs.Bytes.{slash, star}
 use Rattle.glob.specs.Labels.{upToSlash, labelsOf, deep}
 use Rattle.glob.specs.Fit.{afterSome, first, fit, fitsLabel, fitLabels}
-use Rattle.glob.specs.Inner.{Says, Begun, Cut, OffLabels}
+use Rattle.glob.specs.Inner.{Says, Begun, Cut, OffLabels, Single}
 use Rattle.glob.specs.declared.fit.Trial.{Trial}
 use Rattle.buffer.proofs.Tests.{and-false, not-both, same?}
 use Rattle.glob.proofs.Parts.{tail-part, no-items, front, back, back-step, back-end, length-back, step}
-use Rattle.glob.proofs.Trials.{fit-wild, fit-one, byte-law, end-law, Tried, tried-on, first-on, first-off}
+use Rattle.glob.proofs.Trials.{fit-wild, fit-one, byte-law, end-law, Tried, tried-on, first-on, first-off, last-only, last-later}
 
 -- what stands up to the next `/`, at an index
 slash-here : (s : List ℕ) (c : ℕ) → c ≡ slash → upToSlash (c ∷ s) ≡ []
@@ -236,3 +236,40 @@ module _ (p s : List ℕ) (l : 1 < length p) (f : Begun p) (w : getD p 1 0 ≡ s
   -- and what is left has one byte, or none
   pub off-last : (getD p 1 0 ≡ slash → ⊥) → (i : ℕ) → length s ≤ i + 1 → OffLabels (labelsOf p) s i
   off-last v i m = short-law p (back s i) l f w v (omega (arith, length-back s i))
+
+-- a pattern is one label, and not `**`
+pub single-law : (p : List ℕ) → Cut p (length p) → deep (front p (length p)) ≡ false → Single p
+single-law p h d =
+    record {
+      some = h .low;
+      takes = one-law p (length p) h d ∙ ap (first (fitsLabel (front p (length p)))) (labels-end-law (back p (length p)) (back-end p (length p) (omega arith)));
+    }
+
+-- a list without `/` stands before its first `/`, and has no label
+no-slash : (t : List ℕ) → length (upToSlash t) ≡ length t → (upToSlash t ≡ t) × (labelsOf t ≡ [])
+no-slash t e = (sym (take-up t) ∙ take-all (length (upToSlash t)) t (omega arith), drop-up t ∙ ap (λ (i : ℕ). labelsOf (drop i t)) e ∙ ap labelsOf (drop-length t))
+
+pub no-label : (s : List ℕ) → 0 + length (upToSlash s) ≡ length s → labelsOf s ≡ []
+no-label s h = no-slash s (omega arith) .1
+
+-- of one label behind `**`, the last label decides: l, where it stands alone from i on
+module _ (f : List ℕ → Bool) where
+  abbrev Last : List ℕ → List (List ℕ) → Type 0
+  Last l ls = (none ls ≡ false) × (afterSome (first f none) ls ≡ f l)
+
+  last-of : (s : List ℕ) (i : ℕ) (l : List ℕ) → labelsOf (drop i s) ≡ l ∷ [] → Last l (labelsOf s)
+  last-of s zero l e = rw e (refl, last-only f l)
+  last-of [] (suc i) l e = not-both (ap none (sym e)) refl
+  last-of (c ∷ s) (suc i) l e = go (eqb c slash) (last-of s i l e)
+    where
+      go : (b : Bool) → Last l (labelsOf s) → Last l (cond b (upToSlash s ∷ labelsOf s) (labelsOf s))
+      go true h = (refl, last-later f (upToSlash s) (labelsOf s) (h .0) ∙ h .1)
+      go false h = h
+
+  pub last-law : (s : List ℕ) (a : ℕ) → (a ≡ 0 → ⊥) → a + length (upToSlash (drop a s)) ≡ length s → getD s (a - 1) 0 ≡ slash → afterSome (first f none) (labelsOf s) ≡ f (back s a)
+  last-law s a n h e =
+      let size = length-drop a s in
+      let next : a - 1 + 1 ≡ a = omega arith in
+      let behind = no-slash (drop a s) (omega arith) in
+      let cut : drop (a - 1) s ≡ getD s (a - 1) 0 ∷ drop a s = step s (a - 1) (omega arith) ∙ ap (λ (i : ℕ). getD s (a - 1) 0 ∷ drop i s) next in
+      last-of s (a - 1) (back s a) (rw (cut, eq-eqb (getD s (a - 1) 0) slash e, behind .0, behind .1, tail-part a s)) .1

@@ -92,6 +92,18 @@ pub some-none : {B : Type 0} (s : List B) → afterSome none s ≡ true
 some-none [] = refl
 some-none (x ∷ s) = some-none s
 
+-- one element passes f and no more follow, once some are taken: only the last element can be it
+module _ {B : Type 0} (f : B → Bool) (x : B) where
+  pub last-only : afterSome (first f none) (x ∷ []) ≡ f x
+  last-only = go (f x)
+    where
+      go : (b : Bool) → (b && true) || false ≡ b
+      go true = refl
+      go false = refl
+
+  pub last-later : (s : List B) → none s ≡ false → afterSome (first f none) (x ∷ s) ≡ afterSome (first f none) s
+  last-later s e = rw (and-false (f x) (none s) e)
+
 -- what `fit` is at a wild element and at another
 pub fit-wild : {A B : Type 0} (wild : A → Bool) (one : A → B → Bool) (a : A) (p : List A) → wild a ≡ true → fit wild one (a ∷ p) ≡ afterSome (fit wild one p)
 unfolding fit

@@ -4,9 +4,10 @@ use mathlib.Core.Path.{_≡_}
 use mathlib.Core.List.{List, _∷_}
 use mathlib.Core.Bool.{Bool, true, false}
 use lib.ListN.{length, take, drop, getD}
+use Rattle.buffer.specs.Lists.{none}
 use Rattle.glob.specs.Bytes.{slash}
 use Rattle.glob.specs.Labels.{labelsOf}
-use Rattle.glob.specs.Fit.{afterSome, fitsLabel, fitLabels}
+use Rattle.glob.specs.Fit.{afterSome, first, fitsLabel, fitLabels}
 use Rattle.glob.specs.declared.fit.Trial.{Trial}
 use Rattle.glob.specs.declared.fit.Trial.the-variants.{Fits, Fails, Never}
 
@@ -56,3 +57,8 @@ pub record Cut (s : List ℕ) (r : ℕ) : Type 0 where
 -- at i of s, if a label begins there or s has ended, what is left does not fit ps, the labels of a pattern
 abbrev pub OffLabels : List (List ℕ) → List ℕ → ℕ → Type 0
 OffLabels ps s i = Begun (take (length s - i) (drop i s)) → fitLabels ps (labelsOf (take (length s - i) (drop i s))) ≡ false
+
+-- p, a pattern, is one label, which takes exactly one
+pub record Single (p : List ℕ) : Type 0 where
+  pub some : 1 ≤ length p
+  pub takes : fitLabels (labelsOf p) ≡ first (fitsLabel (take (length p - 1) (drop 1 p))) none

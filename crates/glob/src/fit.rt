@@ -3,16 +3,18 @@
 use crate::bytes::SLASH;
 use crate::bytes::STAR;
 use crate::split::is_deep;
+use crate::split::last_label;
 use crate::split::next_slash;
 ghost use mathlib.Core.Path.{_≡_};
 ghost use mathlib.Core.Bool.{true, false, _&&_};
 ghost use Prim.Native.Nat.{_+_, _-_, _<_, _≤_};
 ghost use lib.ListN.{length, take, drop, getD};
 ghost use lib.Dec.{eqb};
+ghost use Rattle.buffer.specs.Lists.{none};
 ghost use Rattle.glob.specs.Bytes.{slash};
 ghost use Rattle.glob.specs.Labels.{labelsOf};
-ghost use Rattle.glob.specs.Fit.{afterSome, fitsLabel, fitLabels, fitsPath};
-ghost use Rattle.glob.specs.Inner.{Says, isFit, Alike, Skipped, OffLabel, OffLabels, Begun};
+ghost use Rattle.glob.specs.Fit.{afterSome, first, fitsLabel, fitLabels, fitsPath};
+ghost use Rattle.glob.specs.Inner.{Says, isFit, Alike, Skipped, OffLabel, OffLabels, Begun, Single};
 
 // `Never`: it fails now, and also once any of the first bytes (or labels) are taken away.
 pub(crate) enum Trial {
@@ -94,7 +96,7 @@ fn label(p: &[u8], s: &[u8]) -> Trial
     Trial::Fails
 }
 
-// Tries a label against `*` and the pattern that remains. `*` takes one byte more in each turn.
+// Tries a label against `*` and the pattern that remains. `*` takes one byte more, or several, in each turn.
 fn after_star(p: &[u8], s: &[u8]) -> Trial
     ensures { λ r. ⌜ Says (afterSome (fitsLabel (now (p .entry)))) (now (s .entry)) r ⌝ }
 {
@@ -209,6 +211,34 @@ fn next_begin(pattern: &[u8], path: &[u8], from: usize) -> usize
     path.len() + 1
 }
 
+// Is a pattern one label, and not `**`? Then it takes exactly one label.
+fn is_single(pattern: &[u8]) -> bool
+    requires { ⌜ Begun (now pattern) ⌝ }
+    ensures { λ r. ⌜ (r ≡ true → Single (now (pattern .entry))) ⌝ }
+{
+    if pattern.len() == 0 {
+        return false;
+    }
+    if next_slash(pattern, 1) < pattern.len() {
+        return false;
+    }
+    !is_deep(&pattern[1..])
+}
+
+// Tries a path against `**` and a last label, which is not `**`: it takes the path's last label, and `**` all before.
+fn try_last(p: &[u8], path: &[u8]) -> Trial
+    ensures { λ r. ⌜ Says (afterSome (first (fitsLabel (now (p .entry))) none)) (labelsOf (now (path .entry))) r ⌝ }
+{
+    let a = last_label(path);
+    if a == 0 { // there is no label
+        return Trial::Never;
+    }
+    if label_fits(p, &path[a..]) {
+        return Trial::Fits;
+    }
+    Trial::Never
+}
+
 // Descendant matching: tries the rest of a path against `**` and the pattern that remains. `**` takes one label more, or several, in each turn.
 fn descend(pattern: &[u8], path: &[u8]) -> Trial
     requires { ⌜ Begun (now pattern) × Begun (now path) ⌝ }
@@ -216,6 +246,9 @@ fn descend(pattern: &[u8], path: &[u8]) -> Trial
 {
     if pattern.len() == 0 { // the `**` is the last label
         return Trial::Fits; // it takes all labels that are left
+    }
+    if is_single(pattern) {
+        return try_last(&pattern[1..], path);
     }
     let mut b = next_begin(pattern, path, 0);
     while b <= path.len() {

@@ -1,9 +1,10 @@
-// Where a label ends, and how many there are.
+// Where a label begins or ends, and how many there are.
 use crate::bytes::SLASH;
 use crate::bytes::STAR;
 ghost use mathlib.Core.Path.{_≡_};
 ghost use Prim.Native.Nat.{_+_, _-_, _≤_};
 ghost use lib.ListN.{length, drop, getD};
+ghost use Rattle.glob.specs.Bytes.{slash};
 ghost use Rattle.glob.specs.Labels.{upToSlash, labelsOf, deep};
 
 // The byte at i, and 0 past the end.
@@ -26,6 +27,20 @@ pub fn next_slash(s: &[u8], from: usize) -> usize
             return i;
         }
         i += 1;
+    }
+    i
+}
+
+// Where does the last label begin: behind the last `/`? Where there is none, 0.
+pub(crate) fn last_label(s: &[u8]) -> usize
+    ensures { λ r. ⌜ (r + length (upToSlash (drop r (now (s .entry)))) ≡ length (now (s .entry))) × ((r ≡ 0 → ⊥) → getD (now (s .entry)) (r - 1) 0 ≡ slash) ⌝ }
+{
+    let mut i = s.len();
+    while i > 0 {
+        if s[i - 1] == SLASH {
+            return i;
+        }
+        i -= 1;
     }
     i
 }

@@ -12,7 +12,7 @@ use borrow.Author.Tests.{not-true, not-false}
 use borrow.Fn.Kinds.{In}
 use borrow.Fn.PlainCycle.{Measures, is, falls, and}
 use Rattle.glob.specs.Labels.{labelsOf}
-use Rattle.glob.specs.Fit.{fit, fitsLabel, fitLabels}
+use Rattle.glob.specs.Fit.{afterSome, fit, fitsLabel, fitLabels}
 use Rattle.glob.specs.Inner.{Says, Begun, Cut, OffLabels}
 use Rattle.glob.specs.declared.fit.Trial.the-variants.{Fits, Never}
 use Rattle.glob.proofs.Parts.{front, back, back-all}
@@ -27,6 +27,8 @@ use Rattle.glob.proofs.fit.labels.Kinds as labels-kinds
 use Rattle.glob.proofs.fit.+descend+labels.Lts-labels as labels-lts
 use Rattle.glob.proofs.fit.begin_unlike.Reads as begin-unlike-reads
 use Rattle.glob.proofs.fit.next_begin.Reads as next-begin-reads
+use Rattle.glob.proofs.fit.is_single.Reads as is-single-reads
+use Rattle.glob.proofs.fit.try_last.Reads as try-last-reads
 use Rattle.glob.proofs.fit.label_fits.Reads as label-fits-reads
 use Rattle.glob.proofs.split.is_deep.Reads as is-deep-reads
 use Rattle.glob.proofs.split.next_slash.Reads as next-slash-reads
@@ -53,7 +55,7 @@ labels-below t = and 2 labels-kinds.ps (falls 2 labels-kinds.ps _<_ μ-labels t)
 
 -- what the callees of `descend` and of `labels` ask and give
 abbrev descend-calls : ℕ → descend-lts.Claims
-descend-calls t = (next-begin-reads.Pre, next-begin-reads.Post, labels-below t, labels.Post)
+descend-calls t = (is-single-reads.Pre, is-single-reads.Post, try-last-reads.Pre, try-last-reads.Post, next-begin-reads.Pre, next-begin-reads.Post, labels-below t, labels.Post)
 
 abbrev labels-calls : ℕ → labels-lts.Claims
 labels-calls t = (begin-unlike-reads.Pre, begin-unlike-reads.Post, next-slash-reads.Asked, next-slash-reads.Learnt, is-deep-reads.Asked, is-deep-reads.Learnt, descend-below t, descend.Post, label-fits-reads.Asked, label-fits-reads.Learnt, labels-below t, labels.Post)
@@ -71,37 +73,43 @@ descend-μ-loop pattern path b₀ b = length path + 1 - b
 descend-returns : (t : ℕ) → descend-lts.Need-returns (descend-calls t) (descend-at t) descend.Post descend-Inv-loop descend-μ-loop
 descend-returns t c = rw (labels-end-law (c .before .before .before .args .pattern .now) (c .if1 .taken)) (some-none (labelsOf (c .before .before .before .args .path .now)))
 
+descend-returns-2 : (t : ℕ) → descend-lts.Need-returns-2 (descend-calls t) (descend-at t) descend.Post descend-Inv-loop descend-μ-loop
+descend-returns-2 t c =
+    let d = c .before .before .before in
+    let single = d .is-single .ensures (c .before .before .if2 .taken) in
+    subst (λ (k : List (List ℕ) → Bool). Says (afterSome k) (labelsOf (d .before .before .before .before .args .path .now)) (c .try-last .result)) (sym (single .takes)) (c .try-last .ensures)
+
 descend-loop-holds : (t : ℕ) → descend-lts.Need-loop-holds (descend-calls t) (descend-at t) descend.Post descend-Inv-loop descend-μ-loop
 descend-loop-holds t c =
-    let s = c .before .before .before .before .args .path .now in
-    let ps = labelsOf (c .before .before .before .before .args .pattern .now) in
+    let s = c .before .before .before .before .before .before .args .path .now in
+    let ps = labelsOf (c .before .before .before .before .before .before .args .pattern .now) in
     let next = c .next-begin in
     (next .ensures .0 .high, next .ensures .1, through (OffLabels ps s) (length s) 0 (Taken ps s) (tried-place ps s (labelsOf s)) (next .result) (next .ensures .0) (tried-none (fitLabels ps) (length s) (labelsOf (back s 0)) (labelsOf s) (ap labelsOf (back-all s))))
 
-descend-returns-2 : (t : ℕ) → descend-lts.Need-returns-2 (descend-calls t) (descend-at t) descend.Post descend-Inv-loop descend-μ-loop
-descend-returns-2 t c =
-    let k = fitLabels (labelsOf (c .before .before .before .before .before .before .before .before .before .before .args .pattern .now)) in
-    let l = labelsOf (back (c .before .before .before .before .before .before .before .before .before .before .args .path .now) (c .before .before .before .before .before .loop .b)) in
-    c .before .before .before .before .before .loop .inv .2 .0 (omega (arith, c .before .before .before .before .loop-test .taken)) Fits (now-some k l (subst (Says k l) (c .enum-told .given .1) (c .before .before .labels .ensures)))
-
 descend-returns-3 : (t : ℕ) → descend-lts.Need-returns-3 (descend-calls t) (descend-at t) descend.Post descend-Inv-loop descend-μ-loop
 descend-returns-3 t c =
-    let k = fitLabels (labelsOf (c .before .before .before .before .before .before .before .before .before .before .args .pattern .now)) in
-    let l = labelsOf (back (c .before .before .before .before .before .before .before .before .before .before .args .path .now) (c .before .before .before .before .before .loop .b)) in
+    let k = fitLabels (labelsOf (c .before .before .before .before .before .before .before .before .before .before .before .before .args .pattern .now)) in
+    let l = labelsOf (back (c .before .before .before .before .before .before .before .before .before .before .before .before .args .path .now) (c .before .before .before .before .before .loop .b)) in
+    c .before .before .before .before .before .loop .inv .2 .0 (omega (arith, c .before .before .before .before .loop-test .taken)) Fits (now-some k l (subst (Says k l) (c .enum-told .given .1) (c .before .before .labels .ensures)))
+
+descend-returns-4 : (t : ℕ) → descend-lts.Need-returns-4 (descend-calls t) (descend-at t) descend.Post descend-Inv-loop descend-μ-loop
+descend-returns-4 t c =
+    let k = fitLabels (labelsOf (c .before .before .before .before .before .before .before .before .before .before .before .before .args .pattern .now)) in
+    let l = labelsOf (back (c .before .before .before .before .before .before .before .before .before .before .before .before .args .path .now) (c .before .before .before .before .before .loop .b)) in
     c .before .before .before .before .before .loop .inv .2 .0 (omega (arith, c .before .before .before .before .loop-test .taken)) Never (never-twice k l (subst (Says k l) (c .enum-told2 .given .1) (c .before .before .labels .ensures)))
 
 descend-loop-again : (t : ℕ) → descend-lts.Need-loop-again (descend-calls t) (descend-at t) descend.Post descend-Inv-loop descend-μ-loop
 descend-loop-again t c =
-    let s = c .before .before .before .before .before .before .before .before .before .before .before .args .path .now in
-    let ps = labelsOf (c .before .before .before .before .before .before .before .before .before .before .before .args .pattern .now) in
+    let s = c .before .before .before .before .before .before .before .before .before .before .before .before .before .args .path .now in
+    let ps = labelsOf (c .before .before .before .before .before .before .before .before .before .before .before .before .before .args .pattern .now) in
     let b = c .before .before .before .before .before .before .loop .b in
     let inv = c .before .before .before .before .before .before .loop .inv in
     let next = c .next-begin2 in
     let no = subst (Says (fitLabels ps) (labelsOf (back s b))) (c .before .enum-told3 .given .1) (c .before .before .before .labels .ensures) in
     (next .ensures .0 .high, next .ensures .1, through (OffLabels ps s) (length s) (b + 1) (Taken ps s) (tried-place ps s (labelsOf s)) (next .result) (next .ensures .0) (tried-place ps s (labelsOf s) b (omega (arith, c .before .before .before .before .before .loop-test .taken)) (λ g. no) (inv .2)))
 
-descend-returns-4 : (t : ℕ) → descend-lts.Need-returns-4 (descend-calls t) (descend-at t) descend.Post descend-Inv-loop descend-μ-loop
-descend-returns-4 t c = never-twice (fitLabels (labelsOf (c .before .before .before .before .before .before .args .pattern .now))) (labelsOf (c .before .before .before .before .before .before .args .path .now)) (c .before .loop .inv .2 .1 (omega (arith, c .loop-test .left)))
+descend-returns-5 : (t : ℕ) → descend-lts.Need-returns-5 (descend-calls t) (descend-at t) descend.Post descend-Inv-loop descend-μ-loop
+descend-returns-5 t c = never-twice (fitLabels (labelsOf (c .before .before .before .before .before .before .before .before .args .pattern .now))) (labelsOf (c .before .before .before .before .before .before .before .before .args .path .now)) (c .before .loop .inv .2 .1 (omega (arith, c .loop-test .left)))
 
 -- the first labels, cut off
 labels-cut : (t : ℕ) (c : labels-lts.After-next-slash (labels-calls t) (labels-at t) labels.Post) → Cut (c .before .before .before .before .before .before .args .pattern .now) (c .next-slash .result)
@@ -184,21 +192,27 @@ pub +descend+labels-spec : {M : Type 1} → statement M
     descend-μ-loop
     (descend-returns t)
     (λ c κs. search needs)
+    (λ c. c .before .is-single .ensures (c .if2 .taken) .some)
+    (λ c. c .before .is-single .ensures (c .if2 .taken) .some)
+    (λ c. search needs)
+    (λ c κs. search needs)
+    (descend-returns-2 t)
+    (λ c κs. search needs)
     (descend-loop-holds t)
     (λ c. search needs)
     (λ c. search needs)
     (λ c. search needs)
     (λ c κs. search needs)
     (λ c. search needs)
-    (descend-returns-2 t)
-    (λ c. search needs)
     (descend-returns-3 t)
+    (λ c. search needs)
+    (descend-returns-4 t)
     (λ c. search needs)
     (λ c. search needs)
     (λ c κs. search needs)
     (λ c. search needs)
     (descend-loop-again t)
-    (descend-returns-4 t))
+    (descend-returns-5 t))
     λ t. labels-lts.spec (labels-calls t)
     (labels-at t)
     labels.Post
