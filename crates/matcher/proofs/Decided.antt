@@ -113,16 +113,24 @@ told pattern known = go (isFine (patternForm pattern)) refl (ended known) refl
 pub reached : (pattern known : List ℕ) (r : Answer) → r ≡ reachOf pattern known → Reached pattern known r
 reached pattern known r e = record { is = e; told = subst (Told pattern known) (sym e) (told pattern known) }
 
--- the answer, as the code meets it: nothing known, the last byte is the end byte, or it is not
+-- the end byte, as the code meets it: nothing is known, or the last byte tells
+pub ended-none : (known : List ℕ) → length known ≡ 0 → false ≡ ended known
+ended-none known l = rw (no-items known l)
+
+pub ended-some : (known : List ℕ) → (length known ≡ 0 → ⊥) → eqb (lastByte known) endByte ≡ ended known
+ended-some known f = rw (not-none known f)
+
+pub ended-long : (known : List ℕ) → ended known ≡ true → 1 ≤ length known
+ended-long [] e = not-both e refl
+ended-long (c ∷ k) e = omega arith
+
+-- the answer, as the code meets it
 module _ (pattern known : List ℕ) where
-  pub reach-none : length known ≡ 0 → reachFormed pattern known ≡ reachOpen pattern known
-  reach-none l = rw (no-items known l)
+  pub reach-ended : ended known ≡ true → reachFormed pattern known ≡ reachWhole pattern (take (length known - 1) known)
+  reach-ended e = rw e
 
-  pub reach-end : (length known ≡ 0 → ⊥) → lastByte known ≡ endByte → reachFormed pattern known ≡ reachWhole pattern (take (length known - 1) known)
-  reach-end f e = rw (not-none known f, eq-eqb (lastByte known) endByte e)
-
-  pub reach-more : (length known ≡ 0 → ⊥) → (lastByte known ≡ endByte → ⊥) → reachFormed pattern known ≡ reachOpen pattern known
-  reach-more f e = rw (not-none known f, ne-eqb (lastByte known) endByte e)
+  pub reach-more : ended known ≡ false → reachFormed pattern known ≡ reachOpen pattern known
+  reach-more e = rw e
 
 -- of a formed pattern it is the answer
 pub reached-formed : (pattern known : List ℕ) (r : Answer) → r ≡ reachFormed pattern known → isFine (patternForm pattern) ≡ true → Reached pattern known r

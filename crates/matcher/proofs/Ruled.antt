@@ -2,12 +2,12 @@
 use mathlib.Core.Path.{_≡_, refl, sym, ap, _∙_}
 use mathlib.Core.List.{List, [], _∷_, _++_, append-assoc}
 use mathlib.Core.Bool.{Bool, true, false, not, _||_}
-use Prim.Native.Nat.{ℕ, zero, suc, _+_, _-_, _≤_}
+use Prim.Native.Nat.{ℕ, zero, suc, _+_, _-_, _≤_, _<_}
 use native.Mathlib.Omega.{arith}
 use lib.ListN.{length, take, drop, getD, length-take}
-use lib.Seq.{length-take-le, take-append-le, take-append-add, take-add, drop-at}
+use lib.Seq.{length-take-le, take-append-le, take-append-add, take-add, drop-at, drop-cons}
 use lib.Dec.{eqb, eqb-refl}
-use borrow.Author.Tests.{eq-eqb, eqb-true}
+use borrow.Author.Tests.{eq-eqb, ne-eqb, eqb-true}
 use Rattle.buffer.specs.Lists.{all}
 use Rattle.buffer.proofs.Tests.{not-both, and-left}
 use Rattle.glob.specs.Prefix.{LiteralPrefix, differs}
@@ -64,3 +64,14 @@ pub by-difference : (pattern : List ℕ) (literal p : ℕ) (s : List ℕ) (r : B
 by-difference pattern literal p s r l e = record {
   mismatch = λ h t known is. ruled-out pattern known s literal h (omega arith) (ap (λ (i : ℕ). differs (take (literal - i) (drop i pattern)) s) is ∙ sym e ∙ t);
 }
+
+-- a byte above the pattern's, where every path that fits has the pattern's, is a difference
+differs-first : (l s : List ℕ) (n p : ℕ) → p < length l → 0 < n → 0 < length s → getD l p 0 < getD s 0 0 → differs (take n (drop p l)) s ≡ true
+differs-first l [] n p h m f b = absurd (omega arith)
+differs-first l (c ∷ s) zero p h m f b = absurd (omega arith)
+differs-first l (c ∷ s) (suc n) p h m f b = rw (drop-cons l p 0 h, ne-eqb (getD l p 0) c (λ e. omega arith))
+
+pub ruled-above : (pattern known s : List ℕ) (literal : ℕ) → LiteralPrefix pattern literal → length known < literal → 0 < length s
+    → getD pattern (length known) 0 < getD s 0 0 → reachOf pattern (known ++ s) ≡ Mismatch
+ruled-above pattern known s literal h l f above =
+    ruled-out pattern known s literal h (omega arith) (differs-first pattern s (literal - length known) (length known) (omega (arith, h .in-pattern)) (omega arith) f above)

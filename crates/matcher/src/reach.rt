@@ -10,6 +10,7 @@ use glob::prefix::differs;
 ghost use mathlib.Core.Path.{_≡_};
 ghost use mathlib.Core.Bool.{true};
 ghost use Rattle.matcher.specs.Form.{patternForm, isFine};
+ghost use Rattle.matcher.specs.Continued.{ended};
 ghost use Rattle.matcher.specs.Reach.{reachWhole, reachOpen, reachFormed, Reached, RuledOut};
 
 // How many bytes of a pattern does every path that fits it begin with?
@@ -48,18 +49,25 @@ fn reach_open(pattern: &[u8], known: &[u8]) -> Answer
     Answer::Mismatch // no path begins so
 }
 
+// Is the last byte known the end byte?
+fn is_ended(known: &[u8]) -> bool
+    ensures { λ r. ⌜ r ≡ ended (now (known .entry)) ⌝ }
+{
+    let n = known.len();
+    if n == 0 {
+        return false;
+    }
+    known[n - 1] == END
+}
+
 // The answer without a check of the pattern: for the search, which checks its pattern once and then asks at every child. For a pattern that
 // is formed it is the answer of `reach`; of any other bytes it answers by their labels, which begin at the first `/`.
 pub fn reach_formed(pattern: &[u8], known: &[u8]) -> Answer
     ensures { λ r. ⌜ r ≡ reachFormed (now (pattern .entry)) (now (known .entry)) ⌝ }
     ensures { λ r. ⌜ (isFine (patternForm (now (pattern .entry))) ≡ true → Reached (now (pattern .entry)) (now (known .entry)) r) ⌝ }
 {
-    let n = known.len();
-    if n == 0 {
-        return reach_open(pattern, known);
-    }
-    if known[n - 1] == END {
-        return reach_whole(pattern, &known[0..n - 1]);
+    if is_ended(known) {
+        return reach_whole(pattern, &known[0..known.len() - 1]);
     }
     reach_open(pattern, known)
 }

@@ -6,17 +6,20 @@ use Prim.Native.Nat.{ℕ, suc, _+_, _-_, _≤_, _<_}
 use mathlib.Core.List.{List, [], _∷_, _++_, map}
 use native.Mathlib.Omega.{arith}
 use lib.ListN.{length, take, length-append}
-use lib.Dec.{leb}
+use lib.Dec.{leb, ltb}
 use lib.Seq.{length-take-le}
-use borrow.Author.Tests.{le-leb, ne-eqb}
-use Rattle.buffer.specs.Lists.{pick}
+use borrow.Author.Tests.{le-leb, ltb-true, ne-eqb}
+use Rattle.buffer.specs.Lists.{All, nil, cons, pick}
 use Rattle.buffer.specs.Splice.{region}
+use Rattle.buffer.proofs.Lists.{all-imp, all-both, all-tested}
 use Rattle.buffer.proofs.Splice.{length-region}
 use Rattle.buffer.proofs.Tests.{and-right, and-both}
 use Rattle.rows.specs.Sizes.{valueSize, pathAt}
-use Rattle.trie_theory.specs.Forest.{Strings, Key, Forest, none, leaf, inner, join, under}
+use Rattle.trie_theory.specs.Forest.{Strings, Key, Forest, none, leaf, inner, join, under, tops}
 use Rattle.trie_theory.specs.Strings.{at}
-use Rattle.trie_theory.specs.Dimensions.{Above, below}
+use Rattle.trie_theory.specs.Dimensions.{Above, below, branching}
+use Rattle.trie_theory.specs.Sound.{Sound, Starts, Ascending}
+use Rattle.trie_theory.specs.SmallTrie.{precedes}
 use Rattle.trie_theory.specs.Size.{height}
 use Rattle.trie_theory.specs.Search.{enters, found, nodesEntered}
 use Rattle.trie_theory.specs.Encode.{Regular, encode}
@@ -75,6 +78,48 @@ module _ (reach : Strings → Bool) (m : Key → Bool) (above : Above) (k : Stri
     unfolding found nodesEntered
     inner-out d children e = (rw e, rw e (omega arith))
 
+  -- none of them is entered
+  none-in : (f : Forest) → All (λ s. enters reach above k s ≡ false) (tops f) → (found reach m above k f ≡ []) × (nodesEntered reach above k f ≡ 0)
+  unfolding found nodesEntered tops
+  none-in none h = (refl, refl)
+  none-in (leaf s ts more) (cons e h) = let i = none-in more h in (rw (e, i .0), rw (e, i .1))
+  none-in (inner d s children more) (cons e h) = let i = none-in more h in (rw (e, i .0), rw (e, i .1))
+
+-- each of sound tries has its strings and its branching byte
+tops-sound : (above : Above) (f : Forest) → Sound 2 above f → All (λ s. (length s ≡ 2) × Starts above s) (tops f)
+unfolding Sound tops
+tops-sound above none h = nil
+tops-sound above (leaf s ts more) h = cons (h .0 .wide, h .0 .starts) (tops-sound above more (h .3))
+tops-sound above (inner d s children more) h = cons (h .0 .wide, h .0 .starts) (tops-sound above more (h .3))
+
+-- where the first of tries that ascend has its branching byte behind the last, all have
+module _ (above : Above) (last : ℕ) (s : Strings) (more : Forest) (behind : Starts above s → last < branching above s) where
+  all-behind : Starts above s → precedes above s more ≡ true → All (λ t. last < branching above t) (s ∷ tops more)
+  unfolding precedes
+  all-behind starts h =
+      let l = behind starts in
+      cons l (all-imp (λ t e. let b = ltb-true (branching above s) (branching above t) e in omega arith) (all-tested (λ t. ltb (branching above s) (branching above t)) (tops more) h))
+
+  leaf-behind : (ts : List Key) → Sound 2 above (leaf s ts more) → Ascending above (leaf s ts more) → All (λ t. last < branching above t) (tops (leaf s ts more))
+  unfolding Sound Ascending tops
+  leaf-behind ts h a = all-behind (h .0 .starts) (a .0)
+
+  inner-behind : (d : ℕ) (children : Forest) → Sound 2 above (inner d s children more) → Ascending above (inner d s children more)
+      → All (λ t. last < branching above t) (tops (inner d s children more))
+  unfolding Sound Ascending tops
+  inner-behind d children h a = all-behind (h .0 .starts) (a .0)
+
+-- a leaf and an inner node before their siblings
+leaf-sound : (above : Above) (s : Strings) (ts : List Key) (more : Forest) → Sound 2 above (leaf s ts more) → Ascending above (leaf s ts more)
+    → Sound 2 above more × Ascending above more
+unfolding Sound Ascending
+leaf-sound above s ts more h a = (h .3, a .1)
+
+inner-sound : (above : Above) (d : ℕ) (s : Strings) (children more : Forest) → Sound 2 above (inner d s children more) → Ascending above (inner d s children more)
+    → (Sound 2 (below d) children × Ascending (below d) children) × (Sound 2 above more × Ascending above more)
+unfolding Sound Ascending
+inner-sound above d s children more h a = ((h .2, a .1), (h .3, a .2))
+
 leaf-roomy : (k s : Strings) (ts : List Key) (more : Forest) → NodesFit k (leaf s ts more) → Short (join k s) × NodesFit k more
 unfolding NodesFit
 leaf-roomy k s ts more r = r
@@ -126,6 +171,7 @@ module _ {q : Query} {above : Above} {depth : ℕ} {k : Strings} {t : List ℕ} 
         let w = leaf-view kind path start next t (s .tries) (s .regular) (s .bytes) h o in
         let n = strings-are (w .places) (w .wide) in
         let f = leaf-in (reaches q) (takes q) above k (w .strings) (w .more) (w .suffixes) (rw n at y) in
+        let u = leaf-sound above (w .strings) (w .suffixes) (w .more) (rw (w .is) at (s .sound)) (rw (w .is) at (s .ascending)) in
         record {
           first = pick (takes q) (map (under (join k (w .strings))) (w .suffixes));
           second = found (reaches q) (takes q) above k (w .more);
@@ -139,6 +185,8 @@ module _ {q : Query} {above : Above} {depth : ℕ} {k : Strings} {t : List ℕ} 
           other = record {
             tries = w .more;
             regular = w .shaped;
+            sound = u .0;
+            ascending = u .1;
             high = leaf-high depth (w .strings) (w .suffixes) (w .more) (rw (w .is) at (s .high));
             nodes-fit = leaf-roomy k (w .strings) (w .suffixes) (w .more) (rw (w .is) at (s .nodes-fit)) .1;
             bytes = w .places .rest-is;
@@ -155,6 +203,7 @@ module _ {q : Query} {above : Above} {depth : ℕ} {k : Strings} {t : List ℕ} 
         let i = inner-high depth (w .dimension) (w .strings) (w .children) (w .more) (rw (w .is) at (s .high)) in
         let m = inner-roomy k (w .strings) (w .dimension) (w .children) (w .more) (rw (w .is) at (s .nodes-fit)) in
         let a : over kind ≡ below (w .dimension) = over-inner kind (w .dimension) (w .branches) byte in
+        let u = inner-sound above (w .dimension) (w .strings) (w .children) (w .more) (rw (w .is) at (s .sound)) (rw (w .is) at (s .ascending)) in
         record {
           first = found (reaches q) (takes q) (below (w .dimension)) (join k (w .strings)) (w .children);
           second = found (reaches q) (takes q) above k (w .more);
@@ -164,11 +213,11 @@ module _ {q : Query} {above : Above} {depth : ℕ} {k : Strings} {t : List ℕ} 
             below = nodesEntered (reaches q) (below (w .dimension)) (join k (w .strings)) (w .children);
             has = record {
               leaf = λ x. absurd (o x);
-              inner = λ x. rw (n, a) record { tries = w .children; regular = w .lower; high = i .0; nodes-fit = m .1; bytes = w .places .body-is; is = refl; entered = refl };
+              inner = λ x. rw (n, a) record { tries = w .children; regular = w .lower; sound = u .0 .0; ascending = u .0 .1; high = i .0; nodes-fit = m .1; bytes = w .places .body-is; is = refl; entered = refl };
             };
             is = refl;
           };
-          other = record { tries = w .more; regular = w .shaped; high = i .1; nodes-fit = m .2; bytes = w .places .rest-is; is = refl; entered = refl };
+          other = record { tries = w .more; regular = w .shaped; sound = u .1 .0; ascending = u .1 .1; high = i .1; nodes-fit = m .2; bytes = w .places .rest-is; is = refl; entered = refl };
           is = s .is ∙ ap (found (reaches q) (takes q) above k) (w .is) ∙ f .0;
           sum = s .entered ∙ ap (nodesEntered (reaches q) above k) (w .is) ∙ f .1;
         })
@@ -182,9 +231,12 @@ module _ {q : Query} {above : Above} {depth : ℕ} {k : Strings} {t : List ℕ} 
         (λ (o : kind ≡ 0).
         let w = leaf-view kind path start next t (s .tries) (s .regular) (s .bytes) h o in
         let f = leaf-out (reaches q) (takes q) above k (w .strings) (w .more) (w .suffixes) (rw (strings-are (w .places) (w .wide)) at y) in
+        let u = leaf-sound above (w .strings) (w .suffixes) (w .more) (rw (w .is) at (s .sound)) (rw (w .is) at (s .ascending)) in
         record {
           tries = w .more;
           regular = w .shaped;
+          sound = u .0;
+          ascending = u .1;
           high = leaf-high depth (w .strings) (w .suffixes) (w .more) (rw (w .is) at (s .high));
           nodes-fit = leaf-roomy k (w .strings) (w .suffixes) (w .more) (rw (w .is) at (s .nodes-fit)) .1;
           bytes = w .places .rest-is;
@@ -194,9 +246,12 @@ module _ {q : Query} {above : Above} {depth : ℕ} {k : Strings} {t : List ℕ} 
         (λ (o : kind ≡ 0 → ⊥).
         let w = inner-view kind path start next t (s .tries) (s .regular) (s .bytes) h o in
         let f = inner-out (reaches q) (takes q) above k (w .strings) (w .more) (w .dimension) (w .children) (rw (strings-are (w .places) (w .wide)) at y) in
+        let u = inner-sound above (w .dimension) (w .strings) (w .children) (w .more) (rw (w .is) at (s .sound)) (rw (w .is) at (s .ascending)) in
         record {
           tries = w .more;
           regular = w .shaped;
+          sound = u .1 .0;
+          ascending = u .1 .1;
           high = inner-high depth (w .dimension) (w .strings) (w .children) (w .more) (rw (w .is) at (s .high)) .1;
           nodes-fit = inner-roomy k (w .strings) (w .dimension) (w .children) (w .more) (rw (w .is) at (s .nodes-fit)) .2;
           bytes = w .places .rest-is;
@@ -204,6 +259,26 @@ module _ {q : Query} {above : Above} {depth : ℕ} {k : Strings} {t : List ℕ} 
           entered = s .entered ∙ ap (nodesEntered (reaches q) above k) (w .is) ∙ f .1;
         })
         (same? kind 0)
+
+    -- the node's branching byte stands behind the last with which a search enters one: so do its siblings'
+    pub tries-behind : {last : ℕ} → (Starts above (part 7 path t ∷ part path start t ∷ []) → last < branching above (part 7 path t ∷ part path start t ∷ []))
+        → ((x : Strings) → length x ≡ 2 → Starts above x → last < branching above x → enters (reaches q) above k x ≡ false)
+        → (ks : List Key) (e : ℕ) → TriesFound q above depth k t ks e → (ks ≡ []) × (e ≡ 0)
+    tries-behind {last} behind out ks e s =
+        let n = none-in (reaches q) (takes q) above k (s .tries) (all-imp (λ x h. out x (h .0 .0) (h .0 .1) (h .1)) (all-both (tops-sound above (s .tries) (s .sound)) above-last)) in
+        (s .is ∙ n .0, s .entered ∙ n .1)
+      where
+        above-last : All (λ x. last < branching above x) (tops (s .tries))
+        above-last =
+            let h = sym z ∙ is (s .tries) (s .regular) (s .bytes) in
+            ⊎-elim
+            (λ (o : kind ≡ 0).
+            let w = leaf-view kind path start next t (s .tries) (s .regular) (s .bytes) h o in
+            rw (w .is) (leaf-behind above last (w .strings) (w .more) (rw (strings-are (w .places) (w .wide)) at behind) (w .suffixes) (rw (w .is) at (s .sound)) (rw (w .is) at (s .ascending))))
+            (λ (o : kind ≡ 0 → ⊥).
+            let w = inner-view kind path start next t (s .tries) (s .regular) (s .bytes) h o in
+            rw (w .is) (inner-behind above last (w .strings) (w .more) (rw (strings-are (w .places) (w .wide)) at behind) (w .dimension) (w .children) (rw (w .is) at (s .sound)) (rw (w .is) at (s .ascending))))
+            (same? kind 0)
 
 -- known bytes and strings that have room behind them
 short-room : (k a b : List ℕ) (v p : ℕ) → length k ≡ slotSize → v ≤ valueSize → p ≤ endedLimit → Short (join (known v p k) (a ∷ b ∷ []))

@@ -77,7 +77,7 @@ first-part false t path body e h =
 
 -- a node that branches in the path, and one that branches in neither dimension
 module _ (q : Query) (v p : ℕ) (k a b s : List ℕ) where
-  enters-second : s ≡ take 1 b → goesOn (valueReach q (take v k)) && goesOn (reachOf (q .pattern) (region k pathAt p ++ s)) ≡ enters (reaches q) (over 2) (known v p k) (a ∷ b ∷ [])
+  pub enters-second : s ≡ take 1 b → goesOn (valueReach q (take v k)) && goesOn (reachOf (q .pattern) (region k pathAt p ++ s)) ≡ enters (reaches q) (over 2) (known v p k) (a ∷ b ∷ [])
   unfolding over enters reaches known
   enters-second e = rw e (ap (reaches q) (sym (branch-path (take v k) (region k pathAt p) a b)))
 
@@ -221,10 +221,10 @@ module _ (q : Query) (v p : ℕ) (b : List ℕ) (path next : ℕ) (k : List ℕ)
 
 pub common-kept : {q : Query} {kind v p : ℕ} {k k' : List ℕ} {r : Common} → InCommon q kind v p k r → known v p k' ≡ known v p k → InCommon q kind v p k' r
 unfolding known
-common-kept {v = v} {p} {k} {k'} c e =
+common-kept {q} {kind} {v} {p} {k} {k'} c e =
     let a : take v k' ≡ take v k = cc in
     let b : region k' pathAt p ≡ region k pathAt p = cc in
-    record { bytes = λ o l. rw a (c .bytes o l); other = rw (a, b) (c .other) }
+    record { bytes = λ o l. rw a (c .bytes o l); last = λ h s l z y. ap (λ (x : Strings). enters (reaches q) (over kind) x s) e ∙ c .last h s l z y; other = λ z. rw (a, b) (c .other z) }
 
 pub span-kept : {q : Query} {n from to : ℕ} (v p : ℕ) (k k' : List ℕ) → Spans q (take v k) n from to → known v p k' ≡ known v p k → Spans q (take v k') n from to
 unfolding known

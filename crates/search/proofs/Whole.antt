@@ -114,6 +114,8 @@ whole k {q} w =
           record {
             tries = f;
             regular = w .regular;
+            sound = w .sound;
+            ascending = w .ascending;
             high = w .high;
             nodes-fit = nodes-fit 2 root nothing f (w .sound) slots;
             bytes = w .bytes;

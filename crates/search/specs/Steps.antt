@@ -1,17 +1,18 @@
 -- The steps of a search: how it goes down to a node, and which keys it takes. Assumes nothing: these are definitions.
 use Prim.Native.Nat.{ℕ, _+_, _-_, _<_}
 use mathlib.Core.Path.{_≡_}
-use mathlib.Core.Bool.{Bool, true, cond, _&&_}
-use mathlib.Core.List.{List, [], _∷_}
+use mathlib.Core.Bool.{Bool, true, false, cond, _&&_}
+use mathlib.Core.List.{List, [], _∷_, _++_}
 use lib.Dec.{eqb, leb}
-use lib.ListN.{take}
+use lib.ListN.{length, take, getD}
 use Rattle.buffer.specs.Splice.{region}
 use Rattle.matcher.specs.Reach.{reachOf}
 use Rattle.matcher.specs.declared.reach.Answer.{Answer}
 use Rattle.matcher.specs.declared.reach.Answer.the-variants.{Match, Mismatch, Incomplete}
 use Rattle.rows.specs.Sizes.{valueSize, pathAt}
-use Rattle.trie_theory.specs.Forest.{Key, join}
-use Rattle.trie_theory.specs.Dimensions.{Above, root, below}
+use Rattle.trie_theory.specs.Forest.{Strings, Key, join}
+use Rattle.trie_theory.specs.Dimensions.{Above, root, below, branching}
+use Rattle.trie_theory.specs.Sound.{Starts}
 use Rattle.trie_theory.specs.Search.{enters}
 use Rattle.entries.specs.Query.{Query, valueReach, reaches, wants}
 use Rattle.trie_read.specs.Sizes.{headSize}
@@ -33,6 +34,10 @@ both Incomplete Incomplete = Incomplete
 abbrev pub rootKind : ℕ
 rootKind = 256
 
+-- no byte is so high
+abbrev pub byteLimit : ℕ
+byteLimit = 256
+
 -- what stands above them
 unfoldable pub over : ℕ → Above
 over kind = cond (eqb kind rootKind) root (below (kind - 1))
@@ -41,11 +46,22 @@ over kind = cond (eqb kind rootKind) root (below (kind - 1))
 unfoldable pub takes : Query → Key → Bool
 takes q x = hasSlot x && wants q x
 
+-- p bytes behind the first of a path, with a byte above the last none fits (256: any byte may)
+pub record LastByte (pattern : List ℕ) (p last : ℕ) : Type 0 where
+  pub is : last < byteLimit → (known s : List ℕ) → length known ≡ p → 0 < length s → last < getD s 0 0 → reachOf pattern (known ++ s) ≡ Mismatch
+
 -- What a search asks once for all children of a node of a kind: the branching bytes with which a value in range goes on, where the node branches in the
--- value, and the answer of the dimension in which it does not branch
+-- value; the last branching byte with which a child can be entered, in either dimension (256: any); and the answer of the dimension in which it does not branch
 pub record InCommon (q : Query) (kind v p : ℕ) (k : List ℕ) (r : Common) : Type 0 where
   pub bytes : kind ≡ 1 → v < valueSize → Spans q (take v k) 1 (r .from) (r .to)
-  pub other : r .other ≡ cond (eqb kind 1) (reachOf (q .pattern) (region k pathAt p)) (valueReach q (take v k))
+  pub last : r .to < byteLimit → (s : Strings) → length s ≡ 2 → Starts (over kind) s → r .to < branching (over kind) s
+      → enters (reaches q) (over kind) (known v p k) s ≡ false
+  pub other : (kind ≡ rootKind → ⊥) → r .other ≡ cond (eqb kind 1) (reachOf (q .pattern) (region k pathAt p)) (valueReach q (take v k))
+
+-- the branching byte of a node with the strings s, if there is one, stands behind the last
+pub record Behind (kind last : ℕ) (s : Strings) : Type 0 where
+  pub byte : last < byteLimit
+  pub is : Starts (over kind) s → last < branching (over kind) s
 
 -- The step to a node of the bytes t, whose strings are t[headSize..path] and t[path..body]: its strings have room behind the known bytes, and a search enters it
 pub record Descended (q : Query) (kind v p : ℕ) (t : List ℕ) (path body : ℕ) (k k' : List ℕ) (r : Bool) : Type 0 where

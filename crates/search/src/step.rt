@@ -4,6 +4,7 @@ use crate::value::Span;
 use crate::value::span_behind;
 use crate::value::value_reach;
 use crate::value::value_with;
+use crate::value::wide;
 use buffer::moves::copy_from;
 use gather::key::ENDED_LIMIT;
 use gather::key::compose;
@@ -19,7 +20,7 @@ ghost use mathlib.Core.Path.{_≡_};
 ghost use mathlib.Core.Bool.{true, cond, _&&_};
 ghost use Prim.Native.Nat.{ℕ, _+_, _-_, _≤_, _<_};
 ghost use mathlib.Core.List.{List, [], _∷_, _++_};
-ghost use lib.ListN.{length, take};
+ghost use lib.ListN.{length, take, getD};
 ghost use lib.Dec.{eqb, ltb};
 ghost use Rattle.buffer.specs.Splice.{region, splice};
 ghost use Rattle.matcher.specs.Form.{patternForm, isFine};
@@ -33,10 +34,13 @@ ghost use Rattle.entries.specs.Query.{valueReach, reaches, isMatch};
 ghost use Rattle.gather.specs.KeySlots.{endedLimit, known};
 ghost use Rattle.search.specs.Asked.{asked};
 ghost use Rattle.search.specs.Spans.{Spans};
-ghost use Rattle.search.specs.Steps.{both, over, InCommon, Descended, Taken};
+ghost use Rattle.search.specs.Steps.{both, over, byteLimit, LastByte, InCommon, Behind, Descended, Taken};
 
 // Stands for the kind of a node where there is none above. No byte is that.
 pub const ROOT: usize = 256;
+
+// Above every byte.
+const ANY_BYTE: u64 = 256;
 
 // The kinds of a node that branches in the value, and of one that branches in the path.
 const VALUE_KIND: usize = 1;
@@ -80,8 +84,8 @@ fn is_match(answer: Answer) -> bool
     }
 }
 
-// What is asked once for all children of a node: which branching bytes of the value lead into the range, from..to, where it branches there, and the
-// answer of the dimension in which it does not branch.
+// What is asked once for all children of a node: which branching bytes of the value lead into the range, from..to, where it branches there; behind
+// which branching byte none can be entered, `to`, in either dimension; and the answer of the dimension in which it does not branch.
 pub(crate) struct Common {
     pub(crate) from: u64,
     pub(crate) to: u64,
@@ -99,20 +103,40 @@ fn branches(low: u64, high: u64, known: &[u8]) -> Span
     Span { from: 1, to: 0 }
 }
 
+// The last branching byte of the path with which a child can be entered, p bytes behind the first: as long as every path that fits has the pattern's
+// byte there, it is that.
+fn last_path_byte(pattern: &[u8], literal: usize, p: usize) -> u64
+    requires { ⌜ LiteralPrefix (now pattern) literal ⌝ }
+    ensures { λ r. ⌜ LastByte (now (pattern .entry)) p r ⌝ }
+{
+    if p < literal {
+        return wide(pattern[p]);
+    }
+    ANY_BYTE
+}
+
 // Asks it at a node of a kind.
 pub(crate) fn ask_once(
     kind: usize,
     pattern: &[u8],
+    literal: usize,
     low: u64,
     high: u64,
     key: &[u8],
     v: usize,
     p: usize,
 ) -> Common
-    requires { ⌜ isFine (patternForm (now pattern)) ≡ true ⌝ }
-    requires { ⌜ (length (now key) ≡ slotSize) × (v ≤ valueSize) × (p ≤ endedLimit) ⌝ }
+    requires { ⌜ (isFine (patternForm (now pattern)) ≡ true) × LiteralPrefix (now pattern) literal ⌝ }
+    requires { ⌜ (length (now key) ≡ slotSize) × (v ≤ valueSize) × (p ≤ endedLimit) × (kind ≡ 0 → ⊥) ⌝ }
     ensures { λ r. ⌜ InCommon (asked (now (pattern .entry)) low high) kind v p (now (key .entry)) r ⌝ }
 {
+    if kind == ROOT {
+        return Common {
+            from: 0,
+            to: ANY_BYTE,
+            other: Answer::Incomplete,
+        };
+    }
     if kind == VALUE_KIND {
         let bytes = branches(low, high, &key[0..v]);
         let end = PATH_AT + p;
@@ -124,11 +148,30 @@ pub(crate) fn ask_once(
         };
     }
     let other = value_reach(low, high, &key[0..v]);
-    Common {
-        from: 1,
-        to: 0,
-        other,
+    let to = last_path_byte(pattern, literal, p);
+    Common { from: 0, to, other }
+}
+
+// Is there a first byte, and above the last?
+fn begins_above(s: &[u8], last: u64) -> bool
+    ensures { λ r. ⌜ (r ≡ true → (last < byteLimit) × (0 < length (now (s .entry))) × (last < getD (now (s .entry)) 0 0)) ⌝ }
+{
+    if s.len() == 0 {
+        return false;
     }
+    last < wide(s[0])
+}
+
+// Does the branching byte of the node of the bytes t, whose parent is of a kind, stand behind the last? Siblings ascend, so a search enters none of
+// them from there on.
+pub(crate) fn is_behind(kind: usize, t: &[u8], path: usize, body: usize, last: u64) -> bool
+    requires { ⌜ (headSize ≤ path) × (path ≤ body) × (body ≤ length (now t)) × (kind ≡ 0 → ⊥) ⌝ }
+    ensures { λ r. ⌜ (r ≡ true → Behind kind last (part headSize path (now (t .entry)) ∷ part path body (now (t .entry)) ∷ [])) ⌝ }
+{
+    if kind == VALUE_KIND {
+        return begins_above(&t[HEAD_SIZE..path], last);
+    }
+    begins_above(&t[path..body], last)
 }
 
 // The answer for the value with the first byte of s added, if there is one: from..to are the bytes that lead into the range.

@@ -101,7 +101,7 @@ pub(crate) fn span_behind(low: u64, high: u64, known: &[u8], n: usize) -> Span
     steps(low, high, bound(known, 0), left)
 }
 
-fn wide(b: u8) -> u64
+pub(crate) fn wide(b: u8) -> u64
     ensures { λ r. ⌜ (r ≡ b) × (r < 256) ⌝ }
 {
     b as u64

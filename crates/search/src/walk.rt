@@ -3,6 +3,7 @@
 use crate::step::ROOT;
 use crate::step::ask_once;
 use crate::step::descend;
+use crate::step::is_behind;
 use crate::step::take_key;
 use crate::value::span_behind;
 use entries::SLOT_SIZE;
@@ -127,7 +128,7 @@ fn walk(
     if depth == 0 {
         return Found { rows, nodes };
     }
-    let common = ask_once(kind, pattern, low, high, key, v, p);
+    let common = ask_once(kind, pattern, literal, low, high, key, v, p);
     let mut t = body;
     let mut m = rows;
     let mut n = nodes;
@@ -139,6 +140,9 @@ fn walk(
                 body: start,
                 next,
             } => {
+                if is_behind(kind, t, path, start, common.to) {
+                    return Found { rows: m, nodes: n };
+                }
                 if descend(
                     key,
                     v,

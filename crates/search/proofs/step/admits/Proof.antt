@@ -29,7 +29,7 @@ returns-2 c =
     let is = c .before .before .before .before .before .before .if2 .taken in
     let z : a .v - 0 ≡ a .v = omega arith in
     let value = (rw z at (c .before .before .value-more .ensures (a .pattern .now))) (λ short. pre .1 .1 .bytes is (omega (arith, short, length-take-le (a .v) (a .key .now) (omega (arith, pre .1 .0))))) in
-    let other = rw (eq-eqb (a .kind) 1 is) at (pre .1 .1 .other) in (
+    let other = rw (eq-eqb (a .kind) 1 is) at (pre .1 .1 .other (c .before .before .before .before .before .before .before .if1 .left)) in (
       c .goes-on .ensures
           ∙ ap goesOn (c .before .both .ensures)
           ∙ both-goes (c .before .before .value-more .result) (a .common .other)
@@ -44,7 +44,7 @@ returns-3 c =
     let pre = c .before .before .before .before .before .before .before .before .before .before .before .before .pre in
     let g = c .before .before .before .ask-path in
     let end = c .before .before .before .before .before .before .one-more in
-    let other = rw (ne-eqb (a .kind) 1 (c .before .before .before .before .before .before .before .if2 .left)) at (pre .1 .1 .other) in (
+    let other = rw (ne-eqb (a .kind) 1 (c .before .before .before .before .before .before .before .if2 .left)) at (pre .1 .1 .other (c .before .before .before .before .before .before .before .before .if1 .left)) in (
       c .goes-on2 .ensures
           ∙ ap goesOn (g .ensures .0)
           ∙ both-goes (a .common .other) (reachOf (a .pattern .now) (region (a .key .now) pathAt (a .p) ++ part (a .path) (end .result) (a .t .now)))
