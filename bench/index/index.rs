@@ -58,11 +58,16 @@ impl Store {
         (reply.first as usize, reply.second)
     }
 
+    /// The small trie and the levels, each from its first byte on.
+    pub fn tries(&self) -> impl Iterator<Item = &[u8]> {
+        let small = 1024 * self.numbers.m;
+        let levels = (0..self.numbers.l).map(move |i| TRIES_AT + (small << i));
+        std::iter::once(TRIES_AT).chain(levels).map(|at| &self.bytes[at..])
+    }
+
     /// All nodes of all tries, read from the store's bytes.
     pub fn nodes(&self) -> u64 {
-        let small = 1024 * self.numbers.m;
-        let levels = (0..self.numbers.l).map(|i| TRIES_AT + (small << i));
-        std::iter::once(TRIES_AT).chain(levels).map(|at| trie_nodes(&self.bytes[at..])).sum()
+        self.tries().map(trie_nodes).sum()
     }
 }
 

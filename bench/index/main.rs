@@ -1,5 +1,6 @@
 //! Additions and searches of the index against SQLite and a plain scan: ratios of one run. What is measured and how: README.md.
 
+mod bare;
 mod data;
 mod index;
 mod plot;
@@ -30,6 +31,7 @@ struct Options {
     tau: usize,
     rounds: usize,
     show_plans: bool,
+    show_bare: bool,
 }
 
 struct Found {
@@ -180,15 +182,34 @@ fn time_block(run: &mut Run, repeats: usize, answer: &mut [u8]) -> f64 {
     seconds(block) / repeats as f64
 }
 
-fn time_runs(runs: &mut [Run; 4], answer: &mut [u8], rounds: usize) -> [f64; 4] {
+fn time_runs<const N: usize>(runs: &mut [Run; N], answer: &mut [u8], rounds: usize) -> [f64; N] {
     let repeats: Vec<usize> = runs.iter_mut().map(|run| (BLOCK / time_block(run, 1, answer)).ceil() as usize).collect();
-    let mut best = [f64::INFINITY; 4];
+    let mut best = [f64::INFINITY; N];
     for _ in 0..rounds {
         for (at, run) in runs.iter_mut().enumerate() {
             best[at] = best[at].min(time_block(run, repeats[at], answer));
         }
     }
     best
+}
+
+/// Seconds of the reader without checks and of the scan, by turns.
+fn time_bare(tables: &Tables, query: &Query, answer: &mut [u8], rounds: usize) -> [f64; 2] {
+    let mut runs: [Run; 2] = [
+        Box::new(|answer| bare::search(tables.store.tries(), query, answer)),
+        Box::new(|answer| scan::search(&tables.sorted, query, answer)),
+    ];
+    let [rows, expected] = [0, 1].map(|at: usize| runs[at](answer));
+    assert_eq!(rows, expected, "rows of the reader without checks, {}", query.name);
+    time_runs(&mut runs, answer, rounds)
+}
+
+fn print_bare(tables: &Tables, answer: &mut [u8], rounds: usize) {
+    println!("\na reader without checks, its rows not sorted: µs, and times the scan");
+    for query in data::queries(&tables.sorted) {
+        let [bare, scan] = time_bare(tables, &query, answer, rounds);
+        println!("{:>3} {:10.2} {:6.2}", query.name, bare * 1e6, scan / bare);
+    }
 }
 
 fn share(sorted: &[Entry], chosen: impl Fn(&Entry) -> bool) -> f64 {
@@ -257,6 +278,9 @@ fn run_searches(tables: &Tables, there: u64, options: &Options) -> Vec<Found> {
         plans.into_iter().for_each(|(by_value, by_path)| println!("    {by_value} | {by_path}"));
         searches.push(found);
     }
+    if options.show_bare {
+        print_bare(tables, &mut answer, options.rounds);
+    }
     assert_eq!(searches.last().map(|all| all.nodes), Some(there), "the search for everything enters every node");
     searches
 }
@@ -305,9 +329,9 @@ fn panel(outcome: &Outcome) -> plot::Panel {
     plot::Panel { title: format!("{} entries", outcome.n), series: (0..CONTESTANTS.len()).map(series).collect() }
 }
 
-/// `[ENTRIES ..] [--tau τ] [--rounds N] [--plans]`
+/// `[ENTRIES ..] [--tau τ] [--rounds N] [--plans] [--bare]`
 fn options() -> Options {
-    let mut options = Options { sizes: Vec::new(), tau: TAU, rounds: ROUNDS, show_plans: false };
+    let mut options = Options { sizes: Vec::new(), tau: TAU, rounds: ROUNDS, show_plans: false, show_bare: false };
     let mut arguments = std::env::args().skip(1);
     let number = |text: Option<String>| text.and_then(|text| text.parse().ok()).expect("a number");
     while let Some(argument) = arguments.next() {
@@ -315,6 +339,7 @@ fn options() -> Options {
             "--tau" => options.tau = number(arguments.next()),
             "--rounds" => options.rounds = number(arguments.next()),
             "--plans" => options.show_plans = true,
+            "--bare" => options.show_bare = true,
             _ => options.sizes.push(number(Some(argument))),
         }
     }

@@ -15,7 +15,7 @@ use Rattle.matcher.specs.Bytes.{slash, endByte}
 use Rattle.matcher.specs.Labels.{labelsOf}
 use Rattle.matcher.specs.Form.{pathLabel, formedPath}
 use Rattle.matcher.specs.Continued.{Continued, Told}
-use Rattle.matcher.specs.Reach.{reachOf, RuledOut}
+use Rattle.matcher.specs.Reach.{reachOf, RuledOut, byteLimit, LastByte}
 use Rattle.matcher.specs.declared.reach.Answer.{Answer}
 use Rattle.matcher.specs.declared.reach.Answer.the-variants.{Match, Mismatch, Incomplete}
 use Rattle.matcher.proofs.Decided.{told}
@@ -71,7 +71,11 @@ differs-first l [] n p h m f b = absurd (omega arith)
 differs-first l (c ∷ s) zero p h m f b = absurd (omega arith)
 differs-first l (c ∷ s) (suc n) p h m f b = rw (drop-cons l p 0 h, ne-eqb (getD l p 0) c (λ e. omega arith))
 
-pub ruled-above : (pattern known s : List ℕ) (literal : ℕ) → LiteralPrefix pattern literal → length known < literal → 0 < length s
-    → getD pattern (length known) 0 < getD s 0 0 → reachOf pattern (known ++ s) ≡ Mismatch
-ruled-above pattern known s literal h l f above =
-    ruled-out pattern known s literal h (omega arith) (differs-first pattern s (literal - length known) (length known) (omega (arith, h .in-pattern)) (omega arith) f above)
+pub by-last : (pattern : List ℕ) (literal p : ℕ) → p < literal → LastByte pattern literal p (getD pattern p 0)
+by-last pattern literal p l = record {
+  mismatch = λ h b known s is f above.
+      ruled-out pattern known s literal h (omega arith) (differs-first pattern s (literal - length known) (length known) (omega (arith, h .in-pattern)) (omega arith) f (rw is above));
+}
+
+pub any-byte : (pattern : List ℕ) (literal p : ℕ) → LastByte pattern literal p byteLimit
+any-byte pattern literal p = record { mismatch = λ h b. absurd (omega arith) }

@@ -11,7 +11,7 @@ ghost use mathlib.Core.Path.{_≡_};
 ghost use mathlib.Core.Bool.{true};
 ghost use Rattle.matcher.specs.Form.{patternForm, isFine};
 ghost use Rattle.matcher.specs.Continued.{ended};
-ghost use Rattle.matcher.specs.Reach.{reachWhole, reachOpen, reachFormed, Reached, RuledOut};
+ghost use Rattle.matcher.specs.Reach.{reachWhole, reachOpen, reachFormed, Reached, RuledOut, LastByte};
 
 // How many bytes of a pattern does every path that fits it begin with?
 pub use glob::prefix::literal_prefix;
@@ -95,4 +95,25 @@ pub fn ruled_out(pattern: &[u8], literal: usize, p: usize, s: &[u8]) -> bool
         return false;
     }
     differs(&pattern[p..literal], s)
+}
+
+// Above every byte.
+pub const BYTE_LIMIT: u64 = 256;
+
+fn wide(b: u8) -> u64
+    ensures { λ r. ⌜ r ≡ b ⌝ }
+{
+    b as u64
+}
+
+// Behind p bytes of a path, the last byte with which it can go on: as long as every path that fits has the pattern's byte there, it is that, else it may be any.
+pub fn last_byte(pattern: &[u8], literal: usize, p: usize) -> u64
+    ensures { λ r. ⌜ LastByte (now (pattern .entry)) literal p r ⌝ }
+{
+    if p < literal {
+        if p < pattern.len() {
+            return wide(pattern[p]);
+        }
+    }
+    BYTE_LIMIT
 }

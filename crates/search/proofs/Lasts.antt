@@ -12,10 +12,9 @@ use Rattle.buffer.specs.Splice.{region}
 use Rattle.buffer.specs.Numbers.{number}
 use Rattle.buffer.proofs.Splice.{length-region}
 use Rattle.buffer.proofs.Tests.{and-false}
-use Rattle.matcher.specs.Reach.{reachOf, goesOn, LiteralPrefix}
+use Rattle.matcher.specs.Reach.{reachOf, goesOn, LiteralPrefix, byteLimit, LastByte}
 use Rattle.matcher.specs.declared.reach.Answer.{Answer}
 use Rattle.matcher.specs.declared.reach.Answer.the-variants.{Mismatch}
-use Rattle.matcher.proofs.Ruled.{ruled-above}
 use Rattle.rows.specs.Sizes.{valueSize, pathAt}
 use Rattle.trie_theory.specs.Forest.{Strings}
 use Rattle.trie_theory.specs.Strings.{first}
@@ -28,18 +27,9 @@ use Rattle.gather.specs.KeySlots.{endedLimit, known}
 use Rattle.trie_read.proofs.Walking.{same?}
 use Rattle.search.specs.Asked.{asked}
 use Rattle.search.specs.Spans.{Spans}
-use Rattle.search.specs.Steps.{rootKind, byteLimit, over, LastByte, Behind}
+use Rattle.search.specs.Steps.{rootKind, over, Behind}
 use Rattle.search.proofs.Ranges.{with-above, too-long}
 use Rattle.search.proofs.Steps.{enters-value, enters-second}
-
--- ---- of the path
-
-pub last-byte : (pattern : List ℕ) (literal p : ℕ) → LiteralPrefix pattern literal → p < literal → LastByte pattern p (getD pattern p 0)
-last-byte pattern literal p h l =
-    record { is = λ b known s is f above. ruled-above pattern known s literal h (omega arith) f (rw is above) }
-
-pub any-byte : (pattern : List ℕ) (p : ℕ) → LastByte pattern p 256
-any-byte pattern p = record { is = λ b. absurd (omega arith) }
 
 -- ---- of a node
 
@@ -85,7 +75,7 @@ module _ (pattern : List ℕ) (low high v p to : ℕ) (k : List ℕ) (long : len
     pub value-last : (kind : ℕ) → kind ≡ 1 → (s : Strings) → length s ≡ 2 → Refused kind s
     value-last kind e s two = two-strings (Refused kind) s two (value-pair kind e)
 
-  module _ (h : p ≤ endedLimit) (last : LastByte pattern p to) (byte : to < byteLimit) where
+  module _ (literal : ℕ) (h : p ≤ endedLimit) (plain : LiteralPrefix pattern literal) (last : LastByte pattern literal p to) (byte : to < byteLimit) where
     path-pair : (kind : ℕ) → (kind ≡ 0 → ⊥) → (kind ≡ 1 → ⊥) → (kind ≡ rootKind → ⊥) → (a b : List ℕ) → Refused kind (a ∷ b ∷ [])
     unfolding over Starts branching first
     path-pair zero z o r a b starts above = absurd (z refl)
@@ -93,7 +83,7 @@ module _ (pattern : List ℕ) (low high v p to : ℕ) (k : List ℕ) (long : len
     path-pair (suc (suc zero)) z o r a [] starts above = absurd (starts refl)
     path-pair (suc (suc zero)) z o r a (c ∷ b) starts above =
         sym (enters-second q v p k a (c ∷ b) (c ∷ []) refl)
-        ∙ and-false (goesOn (valueReach q (take v k))) _ (ap goesOn (last .is byte (region k pathAt p) (c ∷ []) (length-region k pathAt p (omega arith)) (omega arith) above))
+        ∙ and-false (goesOn (valueReach q (take v k))) _ (ap goesOn (last .mismatch plain byte (region k pathAt p) (c ∷ []) (length-region k pathAt p (omega arith)) (omega arith) above))
     path-pair (suc (suc (suc d))) z o r a b starts above = absurd (no-third d a b r starts)
 
     pub path-last : (kind : ℕ) → (kind ≡ 0 → ⊥) → (kind ≡ 1 → ⊥) → (kind ≡ rootKind → ⊥) → (s : Strings) → length s ≡ 2 → Refused kind s

@@ -2,11 +2,11 @@
 use Prim.Native.Nat.{ℕ, _+_, _-_, _<_}
 use mathlib.Core.Path.{_≡_}
 use mathlib.Core.Bool.{Bool, true, false, cond, _&&_}
-use mathlib.Core.List.{List, [], _∷_, _++_}
+use mathlib.Core.List.{List, [], _∷_}
 use lib.Dec.{eqb, leb}
-use lib.ListN.{length, take, getD}
+use lib.ListN.{length, take}
 use Rattle.buffer.specs.Splice.{region}
-use Rattle.matcher.specs.Reach.{reachOf}
+use Rattle.matcher.specs.Reach.{reachOf, byteLimit}
 use Rattle.matcher.specs.declared.reach.Answer.{Answer}
 use Rattle.matcher.specs.declared.reach.Answer.the-variants.{Match, Mismatch, Incomplete}
 use Rattle.rows.specs.Sizes.{valueSize, pathAt}
@@ -34,10 +34,6 @@ both Incomplete Incomplete = Incomplete
 abbrev pub rootKind : ℕ
 rootKind = 256
 
--- no byte is so high
-abbrev pub byteLimit : ℕ
-byteLimit = 256
-
 -- what stands above them
 unfoldable pub over : ℕ → Above
 over kind = cond (eqb kind rootKind) root (below (kind - 1))
@@ -45,10 +41,6 @@ over kind = cond (eqb kind rootKind) root (below (kind - 1))
 -- a search takes the keys that match; on bytes that are no sound trie's, of those that have a slot
 unfoldable pub takes : Query → Key → Bool
 takes q x = hasSlot x && wants q x
-
--- p bytes behind the first of a path, with a byte above the last none fits (256: any byte may)
-pub record LastByte (pattern : List ℕ) (p last : ℕ) : Type 0 where
-  pub is : last < byteLimit → (known s : List ℕ) → length known ≡ p → 0 < length s → last < getD s 0 0 → reachOf pattern (known ++ s) ≡ Mismatch
 
 -- What a search asks once for all children of a node of a kind: the branching bytes with which a value in range goes on, where the node branches in the
 -- value; the last branching byte with which a child can be entered, in either dimension (256: any); and the answer of the dimension in which it does not branch

@@ -10,6 +10,8 @@ use gather::key::ENDED_LIMIT;
 use gather::key::compose;
 use gather::key::enter;
 use matcher::reach::Answer;
+use matcher::reach::BYTE_LIMIT;
+use matcher::reach::last_byte;
 use matcher::reach::reach_formed;
 use matcher::reach::ruled_out;
 use rows::sizes::PATH_AT;
@@ -24,7 +26,7 @@ ghost use lib.ListN.{length, take, getD};
 ghost use lib.Dec.{eqb, ltb};
 ghost use Rattle.buffer.specs.Splice.{region, splice};
 ghost use Rattle.matcher.specs.Form.{patternForm, isFine};
-ghost use Rattle.matcher.specs.Reach.{reachOf, goesOn, LiteralPrefix};
+ghost use Rattle.matcher.specs.Reach.{reachOf, goesOn, LiteralPrefix, byteLimit};
 ghost use Rattle.rows.specs.Sizes.{valueSize, pathAt};
 ghost use Rattle.trie_theory.specs.Search.{enters};
 ghost use Rattle.trie_read.specs.Sizes.{headSize, suffixSize};
@@ -34,13 +36,10 @@ ghost use Rattle.entries.specs.Query.{valueReach, reaches, isMatch};
 ghost use Rattle.gather.specs.KeySlots.{endedLimit, known};
 ghost use Rattle.search.specs.Asked.{asked};
 ghost use Rattle.search.specs.Spans.{Spans};
-ghost use Rattle.search.specs.Steps.{both, over, byteLimit, LastByte, InCommon, Behind, Descended, Taken};
+ghost use Rattle.search.specs.Steps.{both, over, InCommon, Behind, Descended, Taken};
 
 // Stands for the kind of a node where there is none above. No byte is that.
 pub const ROOT: usize = 256;
-
-// Above every byte.
-const ANY_BYTE: u64 = 256;
 
 // The kinds of a node that branches in the value, and of one that branches in the path.
 const VALUE_KIND: usize = 1;
@@ -103,18 +102,6 @@ fn branches(low: u64, high: u64, known: &[u8]) -> Span
     Span { from: 1, to: 0 }
 }
 
-// The last branching byte of the path with which a child can be entered, p bytes behind the first: as long as every path that fits has the pattern's
-// byte there, it is that.
-fn last_path_byte(pattern: &[u8], literal: usize, p: usize) -> u64
-    requires { ⌜ LiteralPrefix (now pattern) literal ⌝ }
-    ensures { λ r. ⌜ LastByte (now (pattern .entry)) p r ⌝ }
-{
-    if p < literal {
-        return wide(pattern[p]);
-    }
-    ANY_BYTE
-}
-
 // Asks it at a node of a kind.
 pub(crate) fn ask_once(
     kind: usize,
@@ -133,7 +120,7 @@ pub(crate) fn ask_once(
     if kind == ROOT {
         return Common {
             from: 0,
-            to: ANY_BYTE,
+            to: BYTE_LIMIT,
             other: Answer::Incomplete,
         };
     }
@@ -148,7 +135,7 @@ pub(crate) fn ask_once(
         };
     }
     let other = value_reach(low, high, &key[0..v]);
-    let to = last_path_byte(pattern, literal, p);
+    let to = last_byte(pattern, literal, p);
     Common { from: 0, to, other }
 }
 
@@ -270,7 +257,7 @@ fn admits(
         ⌜ r ≡ enters (reaches (asked (now (pattern .entry)) low high)) (over kind) (known v p (now (key .entry))) (part headSize path (now (t .entry)) ∷ part path body (now (t .entry)) ∷ []) ⌝ }
     ensures { λ _. ⌜ known v p (now (key .exit)) ≡ known v p (now (key .entry)) ⌝ }
 {
-    if kind == ROOT {
+    if kind == ROOT { // it is entered
         return true;
     }
     let other = common.other;

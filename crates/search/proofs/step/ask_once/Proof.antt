@@ -46,7 +46,7 @@ returns-3 c =
     let one = c .before .before .before .if2 .left in
     record {
       bytes = λ k short. absurd (one k);
-      last = λ b. path-last (a .pattern .now) (a .low) (a .high) (a .v) (a .p) _ (a .key .now) (pre .1 .0) (pre .1 .2) (c .last-path-byte .ensures) b (a .kind) (pre .1 .3) one (c .before .before .before .before .if1 .left);
+      last = λ b. path-last (a .pattern .now) (a .low) (a .high) (a .v) (a .p) _ (a .key .now) (pre .1 .0) (a .literal) (pre .1 .2) (pre .0 .1) (c .last-byte .ensures) b (a .kind) (pre .1 .3) one (c .before .before .before .before .if1 .left);
       other = λ z. rw (ne-eqb (a .kind) 1 one) (c .before .value-reach .ensures (a .pattern .now) ∙ ap (λ (n : ℕ). valueReach (asked (a .pattern .now) (a .low) (a .high)) (take n (a .key .now))) (from-start (a .v)));
     }
 
