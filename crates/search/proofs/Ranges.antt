@@ -1,20 +1,19 @@
 -- The value test, by the tests it is made of. Assumes nothing.
 use mathlib.Core.Path.{_≡_, refl, sym, ap, _∙_}
-use mathlib.Core.Bool.{true, false, _&&_, and-comm}
-use Prim.Native.Nat.{ℕ, zero, suc, _+_, _-_, _*_, _/_, _^_, _≤_, _<_}
+use mathlib.Core.Bool.{false, _&&_, and-comm}
+use Prim.Native.Nat.{ℕ, zero, suc, _+_, _-_, _*_, _/_, _%_, _^_, _≤_, _<_}
 use mathlib.Core.List.{List, [], _∷_, _++_, append-nil}
 use native.Mathlib.Omega.{arith}
-use native.Mathlib.Nat.{add-mul, one-mul, mul-assoc, le-div-iff-mul-le, div-lt-iff-lt-mul, one-le-pow, zero-lt-suc, pow-le-pow-right, div-div-eq-div-mul}
-use lib.ListN.{length, take, drop, getD, replicate, length-append, length-replicate}
-use lib.Pow.{pow-add}
+use native.Mathlib.Nat.{add-mul, one-mul, mul-assoc, le-div-iff-mul-le, div-lt-iff-lt-mul, one-le-pow, zero-lt-suc, pow-suc, pow-le-pow-right, div-eq-of-lt, lt-of-lt-of-le}
+use lib.ListN.{length, take, getD, length-append}
+use lib.Pow.{pow-add, shl-exact}
 use lib.Seq.{take-all, length-take-le}
 use lib.Dec.{leb}
 use borrow.Author.Tests.{le-leb, lt-leb, leb-true, eq-eqb, ne-eqb}
 use Rattle.buffer.specs.Numbers.{number}
-use Rattle.buffer.specs.Splice.{splice, region}
-use Rattle.buffer.proofs.Splice.{splice-is, region-snoc}
+use Rattle.buffer.proofs.Splice.{region-snoc}
 use Rattle.buffer.proofs.Digits.{number-append}
-use Rattle.buffer.proofs.Tests.{and-both, and-false, bool-ext}
+use Rattle.buffer.proofs.Tests.{and-false, bool-ext}
 use Rattle.matcher.specs.declared.reach.Answer.the-variants.{Match, Mismatch, Incomplete}
 use Rattle.rows.specs.Sizes.{valueSize}
 use Rattle.entries.specs.Query.{Query, valueReach, overlaps, lowest, highest}
@@ -22,62 +21,9 @@ use Rattle.entries.proofs.Branch.{least, greatest}
 use Rattle.search.specs.Asked.{asked}
 use Rattle.search.specs.Spans.{Steps, Spans}
 
-drop-same : (k n b : ℕ) → drop k (replicate {A = ℕ} n b) ≡ replicate (n - k) b
-drop-same zero n b = let e : n - 0 ≡ n = omega arith in rw e
-drop-same (suc k) zero b = let e : 0 - suc k ≡ 0 = omega arith in rw e
-drop-same (suc k) (suc n) b = let e : suc n - suc k ≡ n - k = omega arith in rw e (drop-same k n b)
-
--- bytes laid over the beginning of others, all the same
-pub filled-up : (k : List ℕ) (n b : ℕ) → splice (replicate n b) 0 k ≡ k ++ replicate (n - length k) b
-filled-up k n b =
-    let e : 0 + length k ≡ length k = omega arith in
-    rw (splice-is (replicate n b) 0 k, e, drop-same (length k) n b)
-
-pub whole-number : (k : List ℕ) (b : ℕ) → length k ≤ valueSize → number (region (k ++ replicate (valueSize - length k) b) 0 valueSize) ≡ number (k ++ replicate (valueSize - length k) b)
-whole-number k b h =
-    let z : List ℕ = replicate (valueSize - length k) b in
-    ap number (take-all valueSize (k ++ z) (omega (arith, length-append k z, length-replicate {A = ℕ} (valueSize - length k) b)))
-
-module _ (pattern k : List ℕ) (low high : ℕ) where
-  abbrev q : Query
-  q = asked pattern low high
-
-  out : overlaps q k ≡ false → Mismatch ≡ valueReach q k
-  unfolding valueReach
-  out e = rw e
-
-  pub out-range : high < low → Mismatch ≡ valueReach q k
-  unfolding valueReach overlaps
-  out-range h = rw (lt-leb low high h)
-
-  pub out-long : valueSize < length k → Mismatch ≡ valueReach q k
-  unfolding overlaps
-  out-long h = out (and-false (leb low high) _ (rw (lt-leb (length k) valueSize h)))
-
-  pub out-below : high < number (k ++ replicate (valueSize - length k) 0) → Mismatch ≡ valueReach q k
-  unfolding overlaps lowest
-  out-below h = out (and-false (leb low high) _ (and-false (leb (length k) valueSize) _ (rw (lt-leb (lowest k) high h))))
-
-  pub out-above : number (k ++ replicate (valueSize - length k) 255) < low → Mismatch ≡ valueReach q k
-  unfolding overlaps highest
-  out-above h =
-      out (and-false (leb low high) _ (and-false (leb (length k) valueSize) _ (and-false (leb (lowest k) high) _ (lt-leb low (highest k) h))))
-
-  -- all tests pass
-  module _ (r : low ≤ high) (l : length k ≤ valueSize) (b : number (k ++ replicate (valueSize - length k) 0) ≤ high)
-      (a : low ≤ number (k ++ replicate (valueSize - length k) 255)) where
-    inside : overlaps q k ≡ true
-    unfolding overlaps lowest highest
-    inside =
-        and-both (le-leb low high r) (and-both (le-leb (length k) valueSize l) (and-both (le-leb (lowest k) high b) (le-leb low (highest k) a)))
-
-    pub in-whole : length k ≡ valueSize → Match ≡ valueReach q k
-    unfolding valueReach
-    in-whole e = rw (inside, eq-eqb (length k) valueSize e)
-
-    pub in-part : (length k ≡ valueSize → ⊥) → Incomplete ≡ valueReach q k
-    unfolding valueReach
-    in-part e = rw (inside, ne-eqb (length k) valueSize e)
+pub out-long : (pattern k : List ℕ) (low high : ℕ) → valueSize < length k → Mismatch ≡ valueReach (asked pattern low high) k
+unfolding valueReach overlaps
+out-long pattern k low high h = rw (lt-leb (length k) valueSize h, and-false (leb low high) false refl)
 
 -- ---- steps of a width
 
@@ -152,9 +98,10 @@ module _ (q : Query) (k : List ℕ) (n from to : ℕ) (short : length k + n ≤ 
             s .are (number r) ∙ rw (low-end r long, high-end r long, le-leb (length (k ++ r)) valueSize (omega (arith, both-long r long)));
       }
 
-  pub spans-from : (first : ℕ) → first ≡ number (k ++ replicate (valueSize - length k) 0) → Steps (q .low) (q .high) first (256 ^ left) from to → Spans q k n from to
-  unfolding lowest
-  spans-from first e s = spans (rw e at s)
+-- behind no byte
+pub spans-first : (q : Query) (n from to : ℕ) → n ≤ valueSize → Steps (q .low) (q .high) 0 (256 ^ (valueSize - n)) from to → Spans q [] n from to
+unfolding lowest number
+spans-first q n from to short s = spans q [] n from to (omega arith) s
 
 -- ---- the answer by the span
 
@@ -213,13 +160,30 @@ number-none s = refl
 pub number-all : (s : List ℕ) (i : ℕ) → length s ≤ i → number (take i s) ≡ number s
 number-all s i h = ap number (take-all i s h)
 
--- ---- powers
+-- ---- shifts by whole bytes
 
-power-more : (i : ℕ) → 256 ^ i * 256 ≡ 256 ^ (i + 1)
-power-more i = sym (pow-add 256 i 1)
+bits : (n : ℕ) → 2 ^ (8 * n) ≡ 256 ^ n
+bits zero = refl
+bits (suc n) =
+    let e : 8 * suc n ≡ 8 * n + 8 = omega arith in
+    rw (e, pow-add 2 (8 * n) 8, bits n) (sym (pow-suc 256 n))
 
-pub byte-less : (x i : ℕ) → x / 256 ^ i / 256 ≡ x / 256 ^ (i + 1)
-byte-less x i = div-div-eq-div-mul x (256 ^ i) 256 ∙ ap (λ (w : ℕ). x / w) (power-more i)
+pub shifted : (x n : ℕ) → x / 2 ^ (8 * n) ≡ x / 256 ^ n
+shifted x n = rw (bits n)
+
+pub shifted-out : (x n : ℕ) → x < 18446744073709551616 → valueSize ≤ n → 0 ≡ x / 256 ^ n
+shifted-out x n h l = sym (div-eq-of-lt (lt-of-lt-of-le h (pow-le-pow-right (zero-lt-suc 255) {i = 8} {j = n} l)))
+
+pub lowest-none : (k : List ℕ) → length k ≡ 0 → 0 ≡ lowest k
+unfolding lowest number
+lowest-none [] e = refl
+lowest-none (b ∷ k) e = absurd (omega arith)
+
+pub lowest-shifted : (k : List ℕ) (x : ℕ) → x ≡ number k → x < 256 ^ length k → length k ≤ valueSize → (x * 2 ^ (8 * (valueSize - length k))) % 2 ^ 64 ≡ lowest k
+unfolding lowest
+lowest-shifted k x e h l =
+    let j : ℕ = valueSize - length k in
+    shl-exact {a = x} (8 * length k) (8 * j) 64 (rw (bits (length k)) h) (omega arith) ∙ rw (bits j, e) (sym (least k j))
 
 pub power-positive : (i : ℕ) → 0 < 256 ^ i
 power-positive i = one-le-pow i 256 (zero-lt-suc 255)

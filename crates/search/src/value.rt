@@ -1,50 +1,45 @@
 // What the bytes known of a value say of a range.
-use buffer::moves::copy_from;
-use buffer::numbers::get64;
 use matcher::reach::Answer;
 use rows::sizes::VALUE_SIZE;
 ghost use mathlib.Core.Path.{_≡_};
 ghost use Prim.Native.Nat.{ℕ, _+_, _-_, _/_, _^_, _≤_, _<_};
-ghost use mathlib.Core.Bool.{cond, _&&_};
 ghost use mathlib.Core.List.{List, _++_};
-ghost use lib.Dec.{leb};
-ghost use lib.ListN.{length, replicate, take};
+ghost use lib.ListN.{length};
 ghost use Rattle.buffer.specs.Numbers.{number};
 ghost use Rattle.rows.specs.Sizes.{valueSize};
-ghost use Rattle.entries.specs.Query.{Query, valueReach};
+ghost use Rattle.entries.specs.Query.{Query, valueReach, lowest};
 ghost use Rattle.search.specs.Asked.{asked};
 ghost use Rattle.search.specs.Spans.{Steps, Spans};
 
-// The value that begins with the known bytes, all others `filler`: with 0 the lowest, with 255 the highest.
-fn bound(known: &[u8], filler: u8) -> u64
-    requires { ⌜ length (now known) ≤ valueSize ⌝ }
-    ensures { λ r. ⌜ r ≡ number (now (known .entry) ++ replicate (valueSize - length (now (known .entry))) filler) ⌝ }
+pub(crate) fn wide(b: u8) -> u64
+    ensures { λ r. ⌜ (r ≡ b) × (r < 256) ⌝ }
 {
-    let mut bytes = [filler; VALUE_SIZE];
-    copy_from(&mut bytes, 0, known);
-    get64(&bytes, 0)
+    b as u64
 }
 
-// Can a value whose first bytes are known be in the range? The pattern plays no part.
-pub fn value_reach(low: u64, high: u64, known: &[u8]) -> Answer
-    ensures { λ r. ⌜ ((pattern : List ℕ) → r ≡ valueReach (asked pattern low high) (now (known .entry))) ⌝ }
+// The number that at most 8 bytes are.
+fn number_of(s: &[u8]) -> u64
+    requires { ⌜ length (now s) ≤ valueSize ⌝ }
+    ensures { λ r. ⌜ (r ≡ number (now (s .entry))) × (r < 256 ^ length (now (s .entry))) ⌝ }
 {
-    if high < low {
-        return Answer::Mismatch;
+    let mut x: u64 = 0;
+    let mut i: usize = 0;
+    while i < s.len() {
+        x = x * 256 + wide(s[i]);
+        i += 1;
     }
-    if known.len() > VALUE_SIZE {
-        return Answer::Mismatch;
+    x
+}
+
+// The lowest value that begins with the known bytes.
+fn lowest(known: &[u8]) -> u64
+    requires { ⌜ length (now known) ≤ valueSize ⌝ }
+    ensures { λ r. ⌜ r ≡ lowest (now (known .entry)) ⌝ }
+{
+    if known.len() == 0 {
+        return 0;
     }
-    if high < bound(known, 0) {
-        return Answer::Mismatch;
-    }
-    if bound(known, 255) < low {
-        return Answer::Mismatch;
-    }
-    if known.len() == VALUE_SIZE {
-        return Answer::Match;
-    }
-    Answer::Incomplete
+    number_of(known) << (8 * (VALUE_SIZE - known.len()))
 }
 
 // The numbers from..to: none where `from` is above `to`.
@@ -53,17 +48,14 @@ pub struct Span {
     pub to: u64,
 }
 
-// A number without its last n bytes. A division by a power that is not known to the compiler takes longer.
+// A number without its last n bytes.
 fn without_last(x: u64, n: usize) -> u64
     ensures { λ r. ⌜ r ≡ x / 256 ^ n ⌝ }
 {
-    let mut y = x;
-    let mut i: usize = 0;
-    while i < n {
-        y /= 256;
-        i += 1;
+    if n < VALUE_SIZE {
+        return x >> (8 * n);
     }
-    y
+    0
 }
 
 // How many whole steps of 256^n lie below `low`, counted from `first` on?
@@ -94,31 +86,11 @@ fn steps(low: u64, high: u64, first: u64, n: usize) -> Span
 
 // Which numbers of n bytes continue the known bytes to a value in range, or to the beginning of one?
 pub(crate) fn span_behind(low: u64, high: u64, known: &[u8], n: usize) -> Span
-    requires { ⌜ (1 ≤ length (now known) + n) × (length (now known) + n ≤ valueSize) ⌝ }
+    requires { ⌜ length (now known) + n ≤ valueSize ⌝ }
     ensures { λ r. ⌜ ((pattern : List ℕ) → Spans (asked pattern low high) (now (known .entry)) n (r .from) (r .to)) ⌝ }
 {
     let left = VALUE_SIZE - known.len() - n;
-    steps(low, high, bound(known, 0), left)
-}
-
-pub(crate) fn wide(b: u8) -> u64
-    ensures { λ r. ⌜ (r ≡ b) × (r < 256) ⌝ }
-{
-    b as u64
-}
-
-// The number that at most 8 bytes are.
-fn number_of(s: &[u8]) -> u64
-    requires { ⌜ length (now s) ≤ valueSize ⌝ }
-    ensures { λ r. ⌜ r ≡ number (now (s .entry)) ⌝ }
-{
-    let mut x: u64 = 0;
-    let mut i: usize = 0;
-    while i < s.len() {
-        x = x * 256 + wide(s[i]);
-        i += 1;
-    }
-    x
+    steps(low, high, lowest(known), left)
 }
 
 // The answer for a value of which v bytes were known and s is known too: from..to is the span behind those bytes.
@@ -138,4 +110,15 @@ pub(crate) fn value_with(from: u64, to: u64, v: usize, s: &[u8]) -> Answer
         return Answer::Match;
     }
     Answer::Incomplete
+}
+
+// Can a value whose first bytes are known be in the range? The pattern plays no part.
+pub fn value_reach(low: u64, high: u64, known: &[u8]) -> Answer
+    ensures { λ r. ⌜ ((pattern : List ℕ) → r ≡ valueReach (asked pattern low high) (now (known .entry))) ⌝ }
+{
+    if known.len() > VALUE_SIZE {
+        return Answer::Mismatch;
+    }
+    let span = steps(low, high, 0, VALUE_SIZE - known.len());
+    value_with(span.from, span.to, 0, known)
 }

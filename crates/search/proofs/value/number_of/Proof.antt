@@ -1,8 +1,8 @@
 -- One byte more in each turn. Assumes nothing.
 use borrow.Author.Needs.{needs}
 use native.Mathlib.Omega.{arith}
-use Prim.Native.Nat.{_-_, _^_, _≤_, _<_}
-use mathlib.Core.Path.{_≡_, sym, _∙_}
+use Prim.Native.Nat.{ℕ, _-_, _^_, _≤_, _<_}
+use mathlib.Core.Path.{_≡_, sym, subst, _∙_}
 use lib.ListN.{length, take}
 use Rattle.buffer.specs.Numbers.{number}
 use Rattle.search.proofs.Ranges.{number-none, number-more, number-room, number-fits, number-all}
@@ -21,6 +21,13 @@ loop-again c =
     let s = c .before .before .before .before .before .args .s .now in
     (omega arith, rw (l .inv .1, c .wide .ensures .0) (sym (number-more s (l .i) (omega arith))), number-room (l .x) (c .wide .result) (l .i) (l .inv .2) (c .wide .ensures .1))
 
+returns : tie.Need-returns Inv-loop μ-loop
+returns c =
+    let l = c .before .loop in
+    let s = c .before .before .before .args .s .now in
+    let e : l .i ≡ length s = omega (arith, l .inv .0, c .loop-test .left) in
+    (l .inv .1 ∙ number-all s (l .i) (omega arith), subst (λ (i : ℕ). l .x < 256 ^ i) e (l .inv .2))
+
 pub number-of-spec : {M : Type 1} → statement M
 number-of-spec =
     tie.close
@@ -35,4 +42,4 @@ number-of-spec =
     (λ c. search needs)
     (λ c. search needs)
     loop-again
-    (λ c. c .before .loop .inv .1 ∙ number-all (c .before .before .before .args .s .now) (c .before .loop .i) (omega (arith, c .loop-test .left))))
+    returns)

@@ -1,6 +1,6 @@
 -- One law for each test. Assumes nothing.
 use borrow.Author.Needs.{needs}
-use mathlib.Core.Path.{_≡_, sym, subst}
+use mathlib.Core.Path.{sym, subst}
 use Prim.Native.Nat.{ℕ, _^_}
 use Rattle.search.specs.Spans.{Steps}
 use Rattle.search.proofs.Ranges.{steps-none, steps-past, steps-are, power-positive}
