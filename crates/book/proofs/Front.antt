@@ -4,9 +4,7 @@ use mathlib.Core.Path.{_≡_, refl, sym, ap, _∙_}
 use mathlib.Core.Bool.{Bool, true, false, not, _&&_, _||_}
 use mathlib.Core.List.{List, _++_}
 use native.Mathlib.Omega.{arith}
-use native.Mathlib.Nat.{mul-le-mul}
 use lib.ListN.{length, take, drop, take-append-drop}
-use lib.Pow.{pow-mono}
 use lib.Dec.{leb, ltb}
 use borrow.Author.Tests.{leb-true, le-ltb, lt-ltb, ltb-true, ltb-false}
 use Rattle.buffer.specs.Numbers.{bytesOf}
@@ -50,13 +48,6 @@ within m l t e =
       t-low = leb-true 1 t (and-left (leb 1 t) (leb t 100) et);
       t-high = leb-true t 100 (and-right (leb 1 t) (leb t 100) et);
     }
-
--- a sound book's held number has 32 bits
-pub held-small : (b : Book) → Sound b → held b < 2 ^ 32
-held-small b s =
-    let w = within (b .M) (b .L) (b .τ) (s .limits) in
-    let h : b .M * 2 ^ b .L ≤ 4096 * 2 ^ 8 = mul-le-mul (w .m-high) (pow-mono (w .l-high)) in
-    omega (arith, s .room)
 
 or-third : (a b c d : Bool) → c ≡ true → a || b || c || d ≡ true
 or-third true b c d e = refl
