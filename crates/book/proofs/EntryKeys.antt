@@ -14,7 +14,7 @@ use Rattle.buffer.proofs.Tests.{and-left, and-right, and-both}
 use Rattle.buffer.proofs.Digits.{bytesOf-number}
 use Rattle.matcher.specs.Bytes.{pathLimit}
 use Rattle.rows.specs.Sizes.{valueSize, referenceSize}
-use Rattle.rows.specs.Entry.{Entry, fitsRow}
+use Rattle.rows.specs.Entry.{fitsRow}
 use Rattle.trie_theory.specs.Forest.{Strings, Key, Forest, keys}
 use Rattle.trie_theory.specs.Strings.{at}
 use Rattle.trie_theory.specs.Entries as Dimensions

@@ -1,14 +1,13 @@
 -- The laws of numbers in bytes, for any width: bytes and back, back and bytes, and a number in two parts. Assumes nothing.
 use mathlib.Core.Path.{_≡_, refl, sym, ap, _∙_}
-use mathlib.Core.Bool.{Bool, true, _&&_}
+use mathlib.Core.Bool.{true}
 use Prim.Native.Nat.{ℕ, zero, suc, _+_, _*_, _/_, _%_, _^_, _≤_, _<_}
 use mathlib.Core.List.{List, [], _∷_, _++_}
 use native.Mathlib.Omega.{arith}
 use native.Mathlib.Nat.{div-add-mod', mul-assoc, add-mul, zero-mul, pow-suc, mul-le-mul-right, one-le-pow, zero-lt-suc, mod-lt, div-lt-iff-lt-mul, pow-succ', div-div-eq-div-mul, div-one, mul-comm}
-use lib.ListN.{length, take, drop, getD, length-append}
+use lib.ListN.{length, getD, length-append}
 use lib.Pow.{pow-add}
 use lib.Arith.{digits-div, digits-mod, mod-mul}
-use lib.Dec.{ltb}
 use borrow.Author.Tests.{ltb-true, lt-ltb}
 use Rattle.buffer.specs.Lists.{all}
 use Rattle.buffer.specs.Splice.{region}

@@ -1,6 +1,5 @@
 // Runs commands of 16 bytes from standard input on 64 bytes, and prints the 64 bytes in hex after each.
 // A command: kind, three small numbers, 4 bytes not used, 8 bytes of data. The cases and what they print come from tools/oracle/buffer.py.
-ghost use Prim.Native.Nat.{_≤_};
 ghost use mathlib.Core.Path.{_≡_};
 ghost use lib.ListN.{length};
 

@@ -1,16 +1,16 @@
 -- The key buffer: what a suffix and a node write into it. Assumes nothing.
 use mathlib.Core.Path.{_≡_, refl, sym, ap, ap₂, _∙_}
 use mathlib.Core.Bool.{true, false, _&&_}
-use Prim.Native.Nat.{ℕ, suc, _+_, _-_, _≤_, _<_}
+use Prim.Native.Nat.{ℕ, _+_, _-_, _≤_, _<_}
 use mathlib.Core.List.{List, [], _∷_, _++_, append-assoc}
 use native.Mathlib.Omega.{arith}
-use lib.ListN.{length, take, drop, set, getD, replicate, length-append, length-replicate, replicate-append-replicate}
+use lib.ListN.{length, take, drop, set, replicate, length-append}
 use lib.Dec.{eqb, leb, ltb}
-use lib.Seq.{length-take-le, take-take, take-at, drop-at, getD-at}
+use lib.Seq.{length-take-le, take-take, take-at}
 use borrow.Author.Tests.{eqb-true, eq-eqb, leb-true, le-leb, ltb-true, lt-ltb}
 use Rattle.buffer.specs.Splice.{splice, region}
 use Rattle.buffer.specs.Numbers.{bytesOf}
-use Rattle.buffer.proofs.Splice.{length-splice, length-region, splice-from, splice-then, splice-snoc, splice-whole, region-after, region-before, region-at, region-add, take-splice, take-before}
+use Rattle.buffer.proofs.Splice.{length-splice, length-region, splice-from, splice-whole, region-after, region-before, region-at, region-add, take-splice, take-before}
 use Rattle.buffer.proofs.Digits.{length-bytesOf}
 use Rattle.buffer.proofs.Tests.{and-left, and-right, and-both, not-true}
 use Rattle.matcher.specs.Bytes.{pathLimit}

@@ -1,7 +1,6 @@
 -- Worked cases of the definitions, computed. Assumes nothing.
 use mathlib.Core.Path.{_≡_, refl}
-use mathlib.Core.List.{List, [], _∷_}
-use Prim.Native.Nat.{ℕ}
+use mathlib.Core.List.{[], _∷_}
 use Rattle.linecut.specs.Input.{linesFrom, linesOf}
 
 -- no input has no line, a lone 0A one that is empty, and the last line may lack its 0A

@@ -2,7 +2,7 @@
 use mathlib.Core.Path.{_≡_, refl, sym, ap, _∙_}
 use mathlib.Core.List.{List, [], _∷_, _++_, map}
 use mathlib.Core.Bool.{Bool, true, false, cond}
-use Prim.Native.Nat.{ℕ, suc, _+_, _≤_, _<_}
+use Prim.Native.Nat.{ℕ, _+_, _≤_, _<_}
 use native.Mathlib.Omega.{arith}
 use native.Mathlib.Numerals.{add-one}
 use lib.ListN.{length, take, set, length-append, length-set}
@@ -13,7 +13,6 @@ use Rattle.buffer.specs.Lists.{none}
 use Rattle.buffer.proofs.Splice.{set-splice}
 use Rattle.linecut.specs.Input.{linesFrom, linesOf, Given, given, begunAfter, onByte, onEnd, Holds, told, Within, eventOf, Fed, Runs, pushedEvent, pushedLen, pushedBuffer, PushedAs, finishedEvent}
 use Rattle.linecut.specs.Input.Runs.{finishes, pushes}
-use Rattle.linecut.specs.Input.Given.{whole, tooLong}
 use Rattle.linecut.specs.declared.lines.Event.{Event}
 use Rattle.linecut.specs.declared.lines.Event.the-variants.{Nothing, Line, Long}
 

@@ -2,7 +2,7 @@
 // of 512; of a longer line only the fact is kept.
 ghost use mathlib.Core.Path.{_≡_};
 ghost use mathlib.Core.List.{List};
-ghost use Prim.Native.Nat.{ℕ, _≤_};
+ghost use Prim.Native.Nat.{ℕ};
 ghost use lib.ListN.{length};
 ghost use Rattle.linecut.specs.Sizes.{lineLimit};
 ghost use Rattle.linecut.specs.Input.{Holds, Fed, told, onEnd, eventOf, PushedAs, finishedEvent};

@@ -3,9 +3,8 @@ ghost use mathlib.Core.Path.{_≡_};
 ghost use Prim.Native.Nat.{_+_, _≤_, _<_};
 ghost use lib.ListN.{length};
 ghost use Rattle.buffer.specs.Splice.{region};
-ghost use Rattle.buffer.specs.Lists.{all};
 ghost use Rattle.linefields.specs.Sizes.{referenceSize, referenceDigits};
-ghost use Rattle.linefields.specs.Fields.{Ends, only, digit, numberFrom, numberOf, hexDigit, hexValue, isReference, unhex};
+ghost use Rattle.linefields.specs.Fields.{Ends, only, numberFrom, numberOf, hexDigit, hexValue, isReference, unhex};
 use crate::sizes::REFERENCE_DIGITS;
 use buffer::sizes::REFERENCE_SIZE;
 

@@ -1,7 +1,6 @@
 -- Worked cases of the definitions, computed. Assumes nothing.
 use mathlib.Core.Path.{_≡_, refl}
-use mathlib.Core.List.{List, [], _∷_}
-use Prim.Native.Nat.{ℕ}
+use mathlib.Core.List.{[], _∷_}
 use Rattle.linespell.specs.Spelling.{decimalIn, decimal, reply}
 
 -- `=,0,1,4`

@@ -3,7 +3,7 @@ ghost use mathlib.Core.Path.{_≡_};
 ghost use mathlib.Core.List.{[], _∷_};
 ghost use Prim.Native.Nat.{_+_, _*_, _≤_, _<_};
 ghost use lib.ListN.{length, getD};
-ghost use Rattle.buffer.specs.Splice.{splice, region};
+ghost use Rattle.buffer.specs.Splice.{region};
 ghost use Rattle.linespell.specs.Sizes.{pathLimit, lengthAt, pathAt, rowSize, replyLimit, rowLineLimit};
 ghost use Rattle.linespell.specs.Spelling.{decimal, glyph, hex, reply, rowLine, Wrote};
 use rows::sizes::LENGTH_AT;

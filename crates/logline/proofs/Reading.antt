@@ -1,17 +1,16 @@
 -- A field of a line at a position: there, or lost because no comma follows. Assumes nothing.
-use mathlib.Core.Path.{_≡_, refl, sym, ap, subst, _∙_}
-use mathlib.Core.Bool.{Bool, true, false, cond}
-use mathlib.Core.List.{List, [], _∷_}
+use mathlib.Core.Path.{_≡_, sym, ap, subst, _∙_}
+use mathlib.Core.Bool.{true, false}
+use mathlib.Core.List.{List, []}
 use Prim.Native.Nat.{ℕ, _+_, _-_, _≤_, _<_}
 use native.Mathlib.Omega.{arith}
 use lib.ListN.{length, take, drop, length-drop, drop-of-length-le}
-use lib.Seq.{drop-drop, take-all}
+use lib.Seq.{drop-drop}
 use lib.Dec.{ltb}
 use borrow.Author.Tests.{lt-ltb, le-ltb}
-use Rattle.buffer.specs.Splice.{region}
 use Rattle.buffer.proofs.Splice.{length-region}
 use Rattle.linefields.specs.Fields.{width, Ends, numberOf, isReference}
-use Rattle.logline.specs.Meaning.{Meaning, withField, withNumber, meaning, meant, Says}
+use Rattle.logline.specs.Meaning.{Meaning, withField, withNumber, meaning, Says}
 use Rattle.logline.specs.Meaning.Meaning.{misread}
 use Rattle.logline.specs.declared.command.Command.the-variants.{Misread}
 use Rattle.logline.specs.declared.command.Field.{Field}

@@ -13,7 +13,6 @@ use rows::sizes::RECORD_SIZE;
 use rows::sizes::REFERENCE_AT;
 use rows::sizes::ROW_SIZE;
 ghost use mathlib.Core.Path.{_≡_};
-ghost use Prim.Native.Nat.{_≤_};
 ghost use lib.ListN.{length};
 ghost use Rattle.rows.specs.Sizes.{rowSize, recordSize};
 

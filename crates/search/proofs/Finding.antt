@@ -1,7 +1,7 @@
 -- The turns of a loop of a search: rows put and nodes counted so far, and what is left; and the turns over suffixes. Assumes nothing.
 use mathlib.Core.Path.{_≡_, refl, sym, ap, _∙_}
 use mathlib.Core.Bool.{Bool, true, false, cond}
-use Prim.Native.Nat.{ℕ, _+_, _-_, _*_, _≤_}
+use Prim.Native.Nat.{ℕ, _+_, _*_, _≤_}
 use mathlib.Core.List.{List, [], _∷_, _++_, append-assoc, append-nil, map}
 use native.Mathlib.Omega.{arith}
 use lib.ListN.{length, take}
@@ -13,7 +13,6 @@ use Rattle.buffer.proofs.Tests.{and-left}
 use Rattle.rows.specs.Sizes.{rowSize}
 use Rattle.trie_theory.specs.Forest.{Strings, Key, under}
 use Rattle.trie_theory.specs.Strings.{at}
-use Rattle.trie_theory.specs.Search.{found}
 use Rattle.entries.specs.Query.{Query, wants}
 use Rattle.trie_read.specs.Shape.{part, Fixed}
 use Rattle.trie_read.specs.Suffixes.{suffixesBytes, tailOf}

@@ -5,7 +5,7 @@ use mathlib.Core.List.{List, [], _∷_, _++_, map, append-assoc}
 use Rattle.buffer.specs.Lists.{flat}
 use Rattle.buffer.proofs.Lists.{map-append}
 use Rattle.logline.specs.Meaning.{Meaning, meaning, meaningOf}
-use Rattle.logline.specs.Input.{Given, given, linesOf, begunAfter, onByte}
+use Rattle.logline.specs.Input.{given, linesOf, begunAfter, onByte}
 use Rattle.logline.proofs.Feeding.{fed, fed-lines, given-means, holds-start}
 use Rattle.book.specs.Book.{Book, blank}
 use Rattle.session.specs.Printed.{next, printed, printedAll, nextAll, output}

@@ -4,7 +4,7 @@ use trie_read::head::wide;
 use trie_read::head::wide32;
 use trie_read::sizes::HEAD_SIZE;
 ghost use mathlib.Core.Path.{_≡_};
-ghost use mathlib.Core.List.{List, _++_};
+ghost use mathlib.Core.List.{_++_};
 ghost use Prim.Native.Nat.{ℕ, _≤_};
 ghost use lib.ListN.{length, replicate};
 ghost use Rattle.trie_theory.specs.Forest.{Forest};

@@ -1,6 +1,5 @@
 // The numbers at the beginning of a store, and what they say of it.
 ghost use mathlib.Core.Path.{_≡_};
-ghost use mathlib.Core.Bool.{true};
 ghost use Prim.Native.Nat.{_+_, _*_, _^_, _≤_, _<_};
 ghost use lib.ListN.{length};
 ghost use Rattle.book.specs.Front.{inLimits, need, mLimit, lLimit, frontSize};

@@ -10,7 +10,6 @@ use store::front::Opened;
 use store::front::open;
 use store::reply::Reply;
 use store::reply::plain_reply;
-ghost use mathlib.Core.Path.{_≡_};
 ghost use Rattle.rows.specs.Entry.{entry};
 ghost use Rattle.book.specs.Replies.{reply};
 ghost use Rattle.book.specs.Promises.{Adds};

@@ -1,15 +1,15 @@
 -- Each return of the addition: what a callee has made of a body, of a node, of the siblings. Assumes nothing.
-use mathlib.Core.Path.{_≡_, refl, sym, ap, _∙_}
-use mathlib.Core.Bool.{Bool, true, false}
-use Prim.Native.Nat.{ℕ, zero, suc, _+_, _-_, _≤_}
-use mathlib.Core.List.{List, [], _∷_, _++_, append-nil}
+use mathlib.Core.Path.{_≡_, refl, ap, _∙_}
+use mathlib.Core.Bool.{true, false}
+use Prim.Native.Nat.{ℕ, _+_, _-_, _≤_}
+use mathlib.Core.List.{List, [], _∷_, _++_}
 use native.Mathlib.Omega.{arith}
-use lib.ListN.{length, drop, length-append}
+use lib.ListN.{length, length-append}
 use Rattle.buffer.specs.Splice.{splice, region}
 use Rattle.buffer.specs.Numbers.{bytesOf}
 use Rattle.trie_theory.specs.Forest.{Strings, Key, Forest, none, leaf, inner}
 use Rattle.trie_theory.specs.Strings.{at, allBegin, strip, remains}
-use Rattle.trie_theory.specs.SmallTrie.{meets, newLeaf, added}
+use Rattle.trie_theory.specs.SmallTrie.{newLeaf, added}
 use Rattle.trie_theory.specs.Sound.{Ascending}
 use Rattle.trie_theory.specs.Size.{height}
 use Rattle.trie_theory.specs.Encode.{Regular, encode, nodeBytes}
@@ -21,7 +21,7 @@ use Rattle.trie_read.proofs.Stretch.{part-from}
 use Rattle.trie_add.specs.Replaced.{Replaced, splitBytes}
 use Rattle.trie_add.specs.Added.{Added, AddedAt, Grown, single, siblings, kindOf, grownBody}
 use Rattle.trie_add.proofs.Adding.{stretch, widened, body-grown}
-use Rattle.trie_add.proofs.First.{height-some, single-bytes, single-added, single-agrees, single-differs, newLeaf-before, head-kind, single-length, Stands, stands}
+use Rattle.trie_add.proofs.First.{single-bytes, single-added, single-agrees, single-differs, newLeaf-before, head-kind, single-length, stands}
 
 -- ---- below an inner node
 

@@ -1,8 +1,8 @@
 -- The first of tries and its siblings: what an addition that meets the first does to its bytes, and where it stands in a slice. Assumes nothing.
 use mathlib.Core.Path.{_≡_, refl, sym, ap, _∙_}
 use mathlib.Core.Bool.{Bool, true, false, cond}
-use Prim.Native.Nat.{ℕ, zero, suc, _+_, _-_, _≤_}
-use mathlib.Core.List.{List, [], _∷_, _++_, append-assoc, append-nil, map}
+use Prim.Native.Nat.{ℕ, suc, _+_, _-_, _≤_}
+use mathlib.Core.List.{List, [], _∷_, _++_, append-nil, map}
 use native.Mathlib.Omega.{arith}
 use lib.ListN.{length, length-append}
 use lib.Dec.{ltb}
@@ -10,7 +10,6 @@ use Rattle.buffer.specs.Lists.{flat}
 use Rattle.buffer.specs.Splice.{region}
 use Rattle.buffer.specs.Numbers.{bytesOf}
 use Rattle.buffer.proofs.Digits.{length-bytesOf}
-use Rattle.buffer.proofs.Splice.{length-region}
 use Rattle.trie_theory.specs.Forest.{Strings, Key, Forest, none, leaf, inner}
 use Rattle.trie_theory.specs.Strings.{at, allBegin, commons, strip, remains, first}
 use Rattle.trie_theory.specs.Dimensions.{Above, below}

@@ -1,12 +1,12 @@
 -- The fronts of a new parent and of the node below it, side by side. Assumes nothing.
-use mathlib.Core.Path.{_≡_, refl, sym, ap, _∙_}
-use Prim.Native.Nat.{ℕ, suc, _+_, _-_, _≤_}
+use mathlib.Core.Path.{_≡_}
+use Prim.Native.Nat.{ℕ, _+_, _≤_}
 use mathlib.Core.List.{List, [], _∷_, _++_}
 use native.Mathlib.Omega.{arith}
 use native.Mathlib.Nat.{sub-zero}
 use lib.ListN.{length, take, drop, length-append, length-drop}
 use lib.Seq.{length-take-le}
-use Rattle.buffer.specs.Splice.{splice, region}
+use Rattle.buffer.specs.Splice.{splice}
 use Rattle.buffer.proofs.Splice.{region-at}
 use Rattle.trie_read.specs.Shape.{part}
 use Rattle.trie_read.specs.Heads.{front}

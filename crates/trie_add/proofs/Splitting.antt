@@ -4,12 +4,12 @@ use mathlib.Core.Bool.{Bool, true, false, cond}
 use Prim.Native.Nat.{ℕ, suc, _+_, _-_, _≤_}
 use mathlib.Core.List.{List, [], _∷_, _++_, append-assoc, append-nil}
 use native.Mathlib.Omega.{arith}
-use lib.ListN.{length, take, drop, length-append, length-drop}
+use lib.ListN.{length, take, drop, length-append}
 use lib.Seq.{length-take-le}
 use lib.Dec.{eqb, ltb}
 use Rattle.buffer.specs.Splice.{splice, region}
 use Rattle.buffer.proofs.Splice.{splice-insert, region-add, length-region}
-use Rattle.trie_theory.specs.Forest.{Strings, Key, Forest, none}
+use Rattle.trie_theory.specs.Forest.{Strings, none}
 use Rattle.trie_theory.specs.Strings.{common, commons, strip, remains, first}
 use Rattle.trie_theory.specs.Dimensions.{Above, branching}
 use Rattle.trie_theory.specs.SmallTrie.{newLeaf, differing}

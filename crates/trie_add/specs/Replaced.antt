@@ -6,7 +6,7 @@ use mathlib.Core.List.{List, [], _∷_, _++_}
 use lib.ListN.{length, drop}
 use lib.Dec.{ltb}
 use Rattle.buffer.specs.Splice.{splice, region}
-use Rattle.trie_theory.specs.Forest.{Strings, Key, Forest, none}
+use Rattle.trie_theory.specs.Forest.{Strings, Key, none}
 use Rattle.trie_theory.specs.Strings.{common, commons, strip, remains, first}
 use Rattle.trie_theory.specs.Dimensions.{Above, branching}
 use Rattle.trie_read.specs.Shape.{aboveOf}

@@ -1,7 +1,7 @@
 -- The bytes of a node, taken apart: what the head says, and which stretch is which string, the body, the later siblings.
 -- Stated once for leaves and inner nodes, of `nodeBytes`. Assumes nothing.
-use mathlib.Core.Path.{_≡_, refl, sym, ap, _∙_}
-use Prim.Native.Nat.{ℕ, zero, suc, _+_, _-_, _*_, _≤_, _<_}
+use mathlib.Core.Path.{_≡_, refl, sym, _∙_}
+use Prim.Native.Nat.{ℕ, suc, _+_, _≤_}
 use mathlib.Core.List.{List, [], _∷_, _++_, append-assoc, append-nil, map}
 use native.Mathlib.Omega.{arith}
 use lib.ListN.{length, getD, take, length-append}
@@ -15,7 +15,7 @@ use Rattle.trie_theory.specs.Strings.{at}
 use Rattle.trie_theory.specs.Encode.{Regular, encode, nodeBytes, suffixBytes}
 use Rattle.trie_read.proofs.Stretch.{part-at, part-end}
 use Rattle.trie_read.specs.Shape.{part, Fixed}
-use Rattle.trie_read.specs.Heads.{front, nodeHead, bodyOf, headOf, Inside}
+use Rattle.trie_read.specs.Heads.{front, nodeHead, bodyOf, headOf}
 use Rattle.trie_read.specs.declared.head.Head.{Head}
 use Rattle.trie_read.specs.declared.head.Head.the-variants.{End, Bad, Node}
 

@@ -1,19 +1,19 @@
 -- Passing along siblings to where a key belongs: an addition changes only what is not passed yet. Stated once for leaves and inner nodes,
 -- of the strings of the first of them. Assumes nothing.
 use mathlib.Core.Path.{_≡_, refl, sym, ap, _∙_}
-use mathlib.Core.Bool.{Bool, true, false, cond, _&&_}
+use mathlib.Core.Bool.{true, false}
 use mathlib.Core.Logic.{⊎-elim}
-use Prim.Native.Nat.{ℕ, zero, suc, _+_, _-_, _≤_, _<_}
-use mathlib.Core.List.{List, [], _∷_, _++_, append-assoc, append-nil, map}
+use Prim.Native.Nat.{ℕ, suc, _+_, _≤_, _<_}
+use mathlib.Core.List.{List, [], _∷_, _++_, append-assoc, map}
 use native.Mathlib.Omega.{arith}
 use lib.ListN.{length, length-append}
-use lib.Dec.{eqb, ltb}
-use borrow.Author.Tests.{eq-eqb, ne-eqb, lt-ltb, le-ltb, ltb-true}
+use lib.Dec.{ltb}
+use borrow.Author.Tests.{eq-eqb, lt-ltb, le-ltb, ltb-true}
 use Rattle.buffer.specs.Lists.{all}
 use Rattle.buffer.proofs.Tests.{and-left, and-right}
 use Rattle.trie_theory.specs.Forest.{Strings, Key, Forest, none, leaf, inner, tops}
 use Rattle.buffer.specs.Lists.{flat}
-use Rattle.trie_theory.specs.Dimensions.{Above, below, branching}
+use Rattle.trie_theory.specs.Dimensions.{Above, branching}
 use Rattle.trie_theory.specs.SmallTrie.{meets, precedes, newLeaf, outcome, added}
 use Rattle.trie_theory.specs.Sound.{Ascending}
 use Rattle.trie_theory.specs.Size.{height}
@@ -24,7 +24,7 @@ use Rattle.trie_read.specs.Heads.{headOf}
 use Rattle.trie_read.specs.Places.{top, Passed, Here}
 use Rattle.trie_read.specs.declared.head.Head.{Head}
 use Rattle.trie_read.specs.declared.head.Head.the-variants.{End, Bad, Node}
-use Rattle.trie_read.proofs.Node.{LeafView, InnerView, Places, length-own, leaf-view, inner-view, head-end, head-good, strings-are}
+use Rattle.trie_read.proofs.Node.{Places, length-own, leaf-view, inner-view, head-end, head-good, strings-are}
 use Rattle.trie_read.proofs.Walking.{same?}
 
 -- ---- the branching byte against those of tries

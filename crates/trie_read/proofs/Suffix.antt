@@ -1,16 +1,16 @@
 -- The bytes of suffixes, taken apart: what the first of them says, and which stretch is which. Assumes nothing.
-use mathlib.Core.Path.{_≡_, refl, sym, ap, _∙_}
-use Prim.Native.Nat.{ℕ, zero, suc, _+_, _-_, _≤_, _<_}
+use mathlib.Core.Path.{_≡_, refl}
+use Prim.Native.Nat.{ℕ, _+_, _≤_}
 use mathlib.Core.List.{List, [], _∷_, _++_, append-assoc, map}
 use native.Mathlib.Omega.{arith}
 use lib.ListN.{length, getD, length-append}
 use Rattle.trie_theory.specs.Forest.{Strings, Key}
-use Rattle.buffer.specs.Lists.{All, nil, cons, flat}
+use Rattle.buffer.specs.Lists.{All, cons, flat}
 use Rattle.trie_theory.specs.Strings.{at}
 use Rattle.trie_theory.specs.Encode.{suffixBytes}
 use Rattle.trie_read.proofs.Stretch.{part-at, part-end}
 use Rattle.trie_read.specs.Shape.{part, Fixed}
-use Rattle.trie_read.specs.Suffixes.{suffixesBytes, tailOf, Within}
+use Rattle.trie_read.specs.Suffixes.{suffixesBytes, tailOf}
 use Rattle.trie_read.specs.declared.suffixes.Tail.{Tail}
 use Rattle.trie_read.specs.declared.suffixes.Tail.the-variants.{End, Bad, At}
 

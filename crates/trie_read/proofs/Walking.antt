@@ -1,23 +1,20 @@
 -- Walking down a trie with the bytes of a key: each step leads to tries in which the key is looked for all the same. Assumes nothing.
 use mathlib.Core.Path.{_≡_, refl, sym, ap, _∙_}
-use mathlib.Core.Bool.{Bool, true, false, cond, _&&_, and-true}
-use Prim.Native.Nat.{ℕ, zero, suc, _+_, _-_, _≤_}
-use mathlib.Core.List.{List, [], _∷_, _++_, map}
-use mathlib.Core.Logic.{_⊎_, inl, inr, ⊎-elim}
+use mathlib.Core.Bool.{Bool, true, false, _&&_, and-true}
+use Prim.Native.Nat.{ℕ, _-_, _≤_}
+use mathlib.Core.List.{List, [], _∷_}
+use mathlib.Core.Logic.{_⊎_, ⊎-elim}
 use native.Mathlib.Omega.{arith}
 use lib.ListN.{length, drop}
-use lib.Dec.{eqb}
-use borrow.Author.Tests.{eq-eqb}
 use Rattle.trie_theory.specs.Forest.{Strings, Key, Forest, none, leaf, inner}
-use Rattle.trie_theory.specs.Strings.{begins, allBegin, strip, remains, first, at}
+use Rattle.trie_theory.specs.Strings.{begins, allBegin, strip, remains, at}
 use Rattle.buffer.specs.Lists.{All}
-use Rattle.trie_theory.specs.Dimensions.{Above, root, below, branching}
+use Rattle.trie_theory.specs.Dimensions.{Above, root, below}
 use Rattle.trie_theory.specs.SmallTrie.{meets}
 use Rattle.trie_theory.specs.Lookup.{member, among}
 use Rattle.trie_theory.specs.Encode.{Regular, encode}
 use Rattle.buffer.proofs.Tests.{and-left, and-right}
 pub use Rattle.buffer.proofs.Tests.{same?}
-use Rattle.trie_theory.proofs.Strings.{first-at}
 use Rattle.trie_read.proofs.Compare.{begins-length}
 use Rattle.trie_read.proofs.Node.{head-end, head-good, LeafView, InnerView, Places, leaf-view, inner-view, two, strings-are}
 use Rattle.trie_read.proofs.Stretch.{part-from}

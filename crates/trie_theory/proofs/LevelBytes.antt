@@ -1,7 +1,7 @@
 -- The bytes of a level, as a builder writes them: a leaf is one node with the suffixes of its keys, and the body of an inner
 -- node is the bytes of the tries of its parts, one after the other.
 use Prim.Native.Nat.{ℕ, suc}
-use mathlib.Core.Path.{_≡_, refl, sym, ap, ap₂, _∙_}
+use mathlib.Core.Path.{_≡_, refl, sym, ap, _∙_}
 use mathlib.Core.Option.{Option, none, some}
 use mathlib.Core.List.{List, [], _∷_, _++_, map, append-nil}
 use Rattle.trie_theory.specs.Forest.{Strings, Key, Forest}

@@ -1,14 +1,14 @@
 -- The dimension of a new parent, by cases on what the node keeps. Assumes nothing.
-use mathlib.Core.Path.{_≡_, refl, sym, ap, _∙_}
+use mathlib.Core.Path.{_≡_, refl, ap}
 use mathlib.Core.Bool.{Bool, true, false, cond}
-use mathlib.Core.Option.{Option, none, some}
+use mathlib.Core.Option.{none, some}
 use Prim.Native.Nat.{ℕ, zero, suc, _≤_, _<_}
 use mathlib.Core.List.{List, [], _∷_}
 use native.Mathlib.Omega.{arith}
 use lib.ListN.{length}
 use lib.Dec.{ltb}
 use borrow.Author.Tests.{lt-ltb, le-ltb, ne-eqb}
-use Rattle.trie_theory.specs.Dimensions.{Above, root, below, turn, seek, wanted, next}
+use Rattle.trie_theory.specs.Dimensions.{below, turn, seek, wanted, next}
 use Rattle.trie_theory.specs.SmallTrie.{chosen, differing}
 use Rattle.trie_read.specs.Shape.{aboveOf}
 

@@ -1,12 +1,12 @@
 -- The bytes of a leaf that has all bytes of its key: its front, and a suffix of a reference alone. Assumes nothing.
-use mathlib.Core.Path.{_≡_, refl, sym, ap, _∙_}
+use mathlib.Core.Path.{_≡_, refl, ap, _∙_}
 use Prim.Native.Nat.{ℕ, _+_}
-use mathlib.Core.List.{List, [], _∷_, _++_, append-nil, map}
+use mathlib.Core.List.{List, [], _∷_, _++_, append-nil}
 use native.Mathlib.Omega.{arith}
-use lib.ListN.{length, drop, length-append}
+use lib.ListN.{length, length-append}
 use lib.Seq.{drop-length}
 use Rattle.buffer.specs.Lists.{flat}
-use Rattle.trie_theory.specs.Forest.{Forest, none, leaf}
+use Rattle.trie_theory.specs.Forest.{Forest, none}
 use Rattle.trie_theory.specs.Strings.{strip, remains, total}
 use Rattle.trie_theory.proofs.Encode.{length-suffix}
 use Rattle.trie_theory.specs.SmallTrie.{newLeaf}

@@ -7,7 +7,7 @@ use trie_read::sizes::LEAF_SIZE;
 use trie_read::sizes::SUFFIX_SIZE;
 ghost use mathlib.Core.Path.{_≡_};
 ghost use Prim.Native.Nat.{_+_, _-_, _≤_, _<_};
-ghost use mathlib.Core.List.{[], _∷_, _++_};
+ghost use mathlib.Core.List.{_++_};
 ghost use lib.ListN.{length};
 ghost use Rattle.buffer.specs.Sizes.{referenceSize};
 ghost use Rattle.buffer.specs.Splice.{splice, region};

@@ -3,7 +3,7 @@ use Prim.Native.Nat.{_≤_, _-_}
 use mathlib.Core.Path.{_≡_}
 use lib.ListN.{length}
 use borrow.Author.Needs.{needs}
-use Rattle.rows.specs.Sizes.{rowSize, recordSize}
+use Rattle.rows.specs.Sizes.{recordSize}
 use Rattle.nivruska_vectors.proofs.print_record.Statement.{statement}
 use Rattle.nivruska_vectors.proofs.print_record.Tie as tie
 

@@ -3,7 +3,7 @@ use borrow.Author.Needs.{needs}
 use native.Mathlib.Omega.{arith}
 use Prim.Native.Nat.{_+_, _-_}
 use mathlib.Core.Path.{_≡_, ap, _∙_}
-use lib.ListN.{length, replicate}
+use lib.ListN.{length}
 use Rattle.buffer.specs.Splice.{splice, region}
 use Rattle.buffer.proofs.Splice.{splice-whole, length-region}
 use Rattle.buffer.proofs.moves.move_block.Statement.{statement}

@@ -1,7 +1,6 @@
 -- Four bytes read and weighed are the number of the four. Assumes nothing.
 use borrow.Author.Needs.{needs}
 use native.Mathlib.Omega.{arith}
-use mathlib.Core.Path.{_≡_}
 use Rattle.buffer.proofs.Digits.{number-4}
 use Rattle.buffer.proofs.numbers.get32.Statement.{statement}
 use Rattle.buffer.proofs.numbers.get32.Tie as tie

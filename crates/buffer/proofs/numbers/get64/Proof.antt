@@ -1,7 +1,6 @@
 -- The number of eight bytes from the numbers of its halves. Assumes nothing.
 use borrow.Author.Needs.{needs}
 use native.Mathlib.Omega.{arith}
-use mathlib.Core.Path.{_≡_}
 use Rattle.buffer.proofs.Digits.{number-8}
 use Rattle.buffer.proofs.numbers.get64.Statement.{statement}
 use Rattle.buffer.proofs.numbers.get64.Tie as tie

@@ -1,7 +1,6 @@
 -- Four stores in a row are one splice of the four digits. Assumes nothing.
 use borrow.Author.Needs.{needs}
 use native.Mathlib.Omega.{arith}
-use mathlib.Core.Path.{_≡_, sym, _∙_}
 use lib.ListN.{length-set}
 use Rattle.buffer.proofs.Turns.{set-4}
 use Rattle.buffer.proofs.Digits.{bytesOf-4}

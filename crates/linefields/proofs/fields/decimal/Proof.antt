@@ -2,7 +2,6 @@
 use borrow.Author.Needs.{needs}
 use mathlib.Core.Path.{sym, _∙_}
 use mathlib.Core.Logic.{⊎-elim}
-use native.Mathlib.Omega.{arith}
 use Rattle.linefields.proofs.Scan.{number-none, number-zero, number-plain, number-one}
 use Rattle.linefields.proofs.fields.decimal.Statement.{statement}
 use Rattle.linefields.proofs.fields.decimal.Tie as tie

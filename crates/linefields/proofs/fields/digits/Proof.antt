@@ -1,8 +1,8 @@
 -- What the bytes from i on make of the number so far is what all bytes make of 0. Assumes nothing.
 use borrow.Author.Needs.{needs}
 use native.Mathlib.Omega.{arith}
-use Prim.Native.Nat.{_+_, _-_, _*_, _^_, _≤_, _<_}
-use mathlib.Core.Path.{_≡_, refl, sym, ap, _∙_}
+use Prim.Native.Nat.{_-_, _^_, _≤_, _<_}
+use mathlib.Core.Path.{_≡_, refl, sym, _∙_}
 use lib.ListN.{length, drop, getD}
 use Rattle.linefields.specs.Fields.{numberFrom}
 use Rattle.linefields.proofs.Scan.{number-end, number-digit, number-below, number-above, number-large}

@@ -1,6 +1,5 @@
 -- By the five ranges that the tests cut. Assumes nothing.
 use mathlib.Core.Path.{sym}
-use native.Mathlib.Omega.{arith}
 use Rattle.linefields.proofs.Scan.{hex-low, hex-digit, hex-between, hex-letter, hex-high}
 use Rattle.linefields.proofs.fields.is_hex_digit.Statement.{statement}
 use Rattle.linefields.proofs.fields.is_hex_digit.Tie as tie

@@ -1,13 +1,12 @@
 -- Up to i every byte was a hex digit. Assumes nothing.
 use borrow.Author.Needs.{needs}
-use borrow.Author.Tests.{eq-eqb, ne-eqb, not-true, not-false}
+use borrow.Author.Tests.{not-true, not-false}
 use native.Mathlib.Omega.{arith}
 use Prim.Native.Nat.{_-_, _≤_}
 use mathlib.Core.Path.{_≡_, refl, sym, _∙_}
-use mathlib.Core.Bool.{true, false}
 use lib.ListN.{length, drop}
 use Rattle.buffer.specs.Lists.{all}
-use Rattle.linefields.specs.Fields.{hexDigit, isReference}
+use Rattle.linefields.specs.Fields.{hexDigit}
 use Rattle.linefields.proofs.Scan.{all-turn, all-stop, all-end, reference-short, reference-is}
 use Rattle.linefields.proofs.fields.is_reference.Statement.{statement}
 use Rattle.linefields.proofs.fields.is_reference.Tie as tie

@@ -2,7 +2,7 @@
 use borrow.Author.Needs.{needs}
 use native.Mathlib.Omega.{arith}
 use Prim.Native.Nat.{_*_, _-_, _≤_}
-use mathlib.Core.Path.{_≡_, refl, sym, _∙_}
+use mathlib.Core.Path.{_≡_, _∙_}
 use lib.ListN.{length, length-set}
 use Rattle.buffer.specs.Splice.{splice, region}
 use Rattle.buffer.proofs.Splice.{splice-whole, length-region}

@@ -1,8 +1,8 @@
 -- After i turns the digits of the first i bytes are written. Assumes nothing.
 use borrow.Author.Needs.{needs}
 use native.Mathlib.Omega.{arith}
-use Prim.Native.Nat.{_+_, _-_, _*_, _≤_}
-use mathlib.Core.Path.{_≡_, refl, sym, ap, _∙_}
+use Prim.Native.Nat.{_-_, _*_, _≤_}
+use mathlib.Core.Path.{_≡_, refl, _∙_}
 use lib.ListN.{length, take, length-set}
 use lib.Seq.{take-all}
 use Rattle.buffer.specs.Splice.{splice}

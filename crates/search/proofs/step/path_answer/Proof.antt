@@ -1,7 +1,7 @@
 -- What is ruled out is a mismatch, whatever is known. Assumes nothing.
 use borrow.Author.Needs.{needs}
 use native.Mathlib.Omega.{arith}
-use mathlib.Core.Path.{refl, sym, _∙_}
+use mathlib.Core.Path.{refl, sym}
 use Rattle.buffer.specs.Splice.{region}
 use Rattle.buffer.proofs.Splice.{length-region}
 use Rattle.rows.specs.Sizes.{pathAt}

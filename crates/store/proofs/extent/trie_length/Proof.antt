@@ -1,9 +1,8 @@
 -- The root's end, as its head has it. Assumes nothing.
 use borrow.Author.Needs.{needs}
 use native.Mathlib.Omega.{arith}
-use mathlib.Core.Path.{_≡_, refl, sym, ap, _∙_}
+use mathlib.Core.Path.{_≡_, sym, _∙_}
 use Prim.Native.Nat.{_+_}
-use lib.ListN.{length}
 use Rattle.store.proofs.Ends.{bodyAt, ends, no-root, has-root}
 use Rattle.store.proofs.extent.trie_length.Statement.{statement}
 use Rattle.store.proofs.extent.trie_length.Tie as tie

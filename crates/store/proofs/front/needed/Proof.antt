@@ -1,8 +1,8 @@
 -- The product is small enough. Assumes nothing.
 use borrow.Author.Needs.{needs}
 use native.Mathlib.Omega.{arith}
-use mathlib.Core.Path.{_≡_, ap}
-use Prim.Native.Nat.{ℕ, _+_, _*_, _^_, _≤_}
+use mathlib.Core.Path.{ap}
+use Prim.Native.Nat.{ℕ, _+_, _*_}
 use Rattle.book.specs.Front.{need}
 use Rattle.store.proofs.Powers.{product-most}
 use Rattle.store.proofs.front.needed.Statement.{statement}

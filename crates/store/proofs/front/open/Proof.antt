@@ -1,8 +1,8 @@
 -- Test by test. Assumes nothing.
 use borrow.Author.Needs.{needs}
 use native.Mathlib.Omega.{arith}
-use mathlib.Core.Path.{_≡_, sym, _∙_}
-use Rattle.book.proofs.Front.{Within, within, no-front}
+use mathlib.Core.Path.{sym, _∙_}
+use Rattle.book.proofs.Front.{within, no-front}
 use Rattle.store.proofs.Powers.{product-most}
 use Rattle.store.proofs.Opening.{no-limits, no-length, no-held, opened}
 use Rattle.store.proofs.front.open.Statement.{statement}

@@ -1,9 +1,8 @@
 -- Doubled at each turn. Assumes nothing.
 use borrow.Author.Needs.{needs}
 use mathlib.Core.Path.{_≡_, refl, sym, ap, _∙_}
-use Prim.Native.Nat.{ℕ, zero, suc, _-_, _*_, _^_, _≤_}
+use Prim.Native.Nat.{ℕ, _-_, _*_, _^_, _≤_}
 use native.Mathlib.Omega.{arith}
-use native.Mathlib.Numerals.{add-one}
 use Rattle.store.proofs.Powers.{power-next, power-most}
 use Rattle.store.proofs.front.power.Statement.{statement}
 use Rattle.store.proofs.front.power.Tie as tie

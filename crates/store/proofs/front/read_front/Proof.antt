@@ -1,6 +1,6 @@
 -- Each number where it stands. Assumes nothing.
 use borrow.Author.Needs.{needs}
-use mathlib.Core.Path.{_≡_, _∙_}
+use mathlib.Core.Path.{_∙_}
 use Rattle.book.specs.Front.{frontOf}
 use Rattle.store.proofs.front.read_front.Statement.{statement}
 use Rattle.store.proofs.front.read_front.Tie as tie

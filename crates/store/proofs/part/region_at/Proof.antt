@@ -1,6 +1,6 @@
 -- Behind the front, and there behind as many bytes as its own. Assumes nothing.
 use borrow.Author.Needs.{needs}
-use mathlib.Core.Path.{_≡_, ap, _∙_}
+use mathlib.Core.Path.{ap, _∙_}
 use Prim.Native.Nat.{ℕ, _+_}
 use native.Mathlib.Omega.{arith}
 use Rattle.store.proofs.Places.{at-zero, at-some}

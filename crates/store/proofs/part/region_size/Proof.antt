@@ -1,7 +1,7 @@
 -- A power of two, or none. Assumes nothing.
 use borrow.Author.Needs.{needs}
-use mathlib.Core.Path.{_≡_, ap, _∙_}
-use Prim.Native.Nat.{ℕ, _*_, _≤_}
+use mathlib.Core.Path.{ap, _∙_}
+use Prim.Native.Nat.{ℕ, _*_}
 use native.Mathlib.Omega.{arith}
 use Rattle.store.proofs.Powers.{product-most}
 use Rattle.store.proofs.Places.{size-zero, size-some}

@@ -1,8 +1,7 @@
 -- Both tests, and then the writing. Assumes nothing.
 use borrow.Author.Needs.{needs}
-use native.Mathlib.Omega.{arith}
-use mathlib.Core.Path.{_≡_, sym, _∙_}
-use Rattle.book.proofs.Front.{Within, within}
+use mathlib.Core.Path.{sym, _∙_}
+use Rattle.book.proofs.Front.{within}
 use Rattle.store.proofs.Numbers.{refuses-5, refuses-6, accepts}
 use Rattle.store.proofs.setup.prepare.Statement.{statement}
 use Rattle.store.proofs.setup.prepare.Tie as tie

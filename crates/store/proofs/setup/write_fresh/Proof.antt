@@ -1,9 +1,7 @@
 -- Zeros, and the numbers over them. Assumes nothing.
 use borrow.Author.Needs.{needs}
 use native.Mathlib.Omega.{arith}
-use Prim.Native.Nat.{_+_, _≤_}
-use Rattle.book.specs.Front.{need}
-use Rattle.book.proofs.Front.{Within, within}
+use Rattle.book.proofs.Front.{within}
 use Rattle.store.proofs.Fresh.{written, need-least}
 use Rattle.store.proofs.setup.write_fresh.Statement.{statement}
 use Rattle.store.proofs.setup.write_fresh.Tie as tie

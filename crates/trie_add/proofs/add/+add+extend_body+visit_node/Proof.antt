@@ -1,9 +1,9 @@
 -- One addition, three functions that call each other: `depth` falls. Assumes nothing.
 use borrow.Author.Needs.{needs}
 use native.Mathlib.Omega.{arith}
-use mathlib.Core.Path.{_≡_, refl, sym, ap, _∙_}
+use mathlib.Core.Path.{_≡_, sym, _∙_}
 use lib.ListN.{length}
-use Rattle.trie_read.specs.Shape.{part, keyOf, aboveOf}
+use Rattle.trie_read.specs.Shape.{part, keyOf}
 use Rattle.trie_read.specs.Places.{Fits}
 use Rattle.trie_read.specs.declared.place.Place.the-variants as Place
 use Rattle.trie_read.proofs.Stretch.{length-part}

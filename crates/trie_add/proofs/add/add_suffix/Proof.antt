@@ -1,7 +1,7 @@
 -- The suffix at the end of the body, then the length. Assumes nothing.
 use borrow.Author.Needs.{needs}
 use native.Mathlib.Omega.{arith}
-use mathlib.Core.Path.{_≡_, sym, _∙_}
+use mathlib.Core.Path.{sym, _∙_}
 use Rattle.trie_read.specs.Shape.{keyOf}
 use Rattle.trie_write.proofs.NewLeaf.{length-suffixBytes}
 use Rattle.trie_add.proofs.Adding.{leaf-grown}

@@ -2,12 +2,10 @@
 use borrow.Author.Needs.{needs}
 use native.Mathlib.Omega.{arith}
 use native.Mathlib.Nat.{sub-zero}
-use Prim.Native.Nat.{_+_}
-use mathlib.Core.Path.{_≡_, sym, ap, _∙_}
-use mathlib.Core.List.{[], _∷_, _++_}
-use lib.ListN.{length, take, drop}
+use mathlib.Core.Path.{_∙_}
+use mathlib.Core.List.{[], _∷_}
+use lib.ListN.{take, drop}
 use lib.Seq.{length-take-le}
-use Rattle.buffer.specs.Splice.{splice}
 use Rattle.buffer.proofs.Splice.{splice-then}
 use Rattle.trie_read.specs.Heads.{front}
 use Rattle.trie_read.proofs.Node.{length-front}

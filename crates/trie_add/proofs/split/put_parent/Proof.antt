@@ -2,15 +2,10 @@
 use borrow.Author.Needs.{needs}
 use native.Mathlib.Omega.{arith}
 use Prim.Native.Nat.{_+_, _-_}
-use mathlib.Core.Path.{_≡_, sym, ap, _∙_}
-use mathlib.Core.List.{[], _∷_, _++_}
-use lib.ListN.{length, take, drop, replicate, length-append, length-drop}
-use lib.Seq.{length-take-le}
+use mathlib.Core.Path.{_≡_}
+use lib.ListN.{replicate}
 use Rattle.buffer.specs.Splice.{splice}
-use Rattle.buffer.proofs.Splice.{region-at}
 use Rattle.trie_read.specs.Shape.{part}
-use Rattle.trie_read.specs.Heads.{front}
-use Rattle.trie_read.proofs.Node.{length-front}
 use Rattle.trie_read.proofs.Stretch.{length-part}
 use Rattle.trie_add.proofs.Fronts.{fronts, length-fronts, written}
 use Rattle.trie_add.proofs.split.put_parent.Statement.{statement}

@@ -1,7 +1,6 @@
 -- What is read of a node's first seven bytes is its head; bytes that no node begins with are no trie's. Assumes nothing.
 use borrow.Author.Needs.{needs}
 use native.Mathlib.Omega.{arith}
-use mathlib.Core.Path.{sym, _∙_}
 use Rattle.trie_read.proofs.Node.{as-end, as-node, as-long}
 use Rattle.trie_read.proofs.head.read_head.Statement.{statement}
 use Rattle.trie_read.proofs.head.read_head.Tie as tie

@@ -1,6 +1,6 @@
 -- In both dimensions. Assumes nothing.
 use borrow.Author.Needs.{needs}
-use mathlib.Core.Path.{_≡_, sym, _∙_}
+use mathlib.Core.Path.{sym, _∙_}
 use Rattle.trie_read.proofs.Walking.{goes-on, goes-off}
 use Rattle.trie_read.proofs.lookup.agrees.Statement.{statement}
 use Rattle.trie_read.proofs.lookup.agrees.Tie as tie

@@ -4,12 +4,9 @@ use borrow.Author.Needs.{needs}
 use native.Mathlib.Omega.{arith}
 use Prim.Native.Nat.{_≤_, _-_}
 use mathlib.Core.Path.{_≡_, sym, _∙_}
-use mathlib.Core.Bool.{true}
-use mathlib.Core.List.{[], _∷_}
 use lib.ListN.{length}
 use Rattle.trie_theory.specs.Forest.{Forest}
 use Rattle.trie_theory.specs.Encode.{Regular, encode}
-use Rattle.trie_theory.specs.Strings.{allBegin}
 use Rattle.trie_read.specs.Shape.{keyOf, part}
 use Rattle.trie_read.specs.Heads.{Inside}
 use Rattle.trie_read.specs.declared.head.Head.the-variants.{Node}

@@ -1,6 +1,5 @@
 -- The two branching bytes. Assumes nothing.
 use borrow.Author.Needs.{needs}
-use mathlib.Core.Path.{_≡_, refl}
 use Rattle.trie_theory.specs.SmallTrie.{meets}
 use Rattle.trie_read.proofs.lookup.same_branch.Statement.{statement}
 use Rattle.trie_read.proofs.lookup.same_branch.Tie as tie

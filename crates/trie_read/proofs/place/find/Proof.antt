@@ -6,7 +6,6 @@ use mathlib.Core.Path.{_≡_, sym, _∙_}
 use mathlib.Core.List.{[], _∷_}
 use lib.ListN.{length}
 use Rattle.trie_theory.specs.Forest.{Forest}
-use Rattle.trie_theory.specs.Dimensions.{branching}
 use Rattle.trie_theory.specs.Sound.{Ascending}
 use Rattle.trie_theory.specs.Encode.{Regular, encode}
 use Rattle.trie_read.specs.Shape.{aboveOf}

@@ -1,6 +1,6 @@
 -- By the kind of the node above. Assumes nothing.
 use borrow.Author.Needs.{needs}
-use mathlib.Core.Path.{_≡_, sym, _∙_}
+use mathlib.Core.Path.{sym, _∙_}
 use Rattle.trie_read.proofs.Compare.{branch-value, branch-path, branch-none}
 use Rattle.trie_read.proofs.strings.branch_byte.Statement.{statement}
 use Rattle.trie_read.proofs.strings.branch_byte.Tie as tie

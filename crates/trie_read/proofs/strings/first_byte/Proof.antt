@@ -1,6 +1,6 @@
 -- The first byte of a string, or 256. Assumes nothing.
 use borrow.Author.Needs.{needs}
-use mathlib.Core.Path.{_≡_, sym, _∙_}
+use mathlib.Core.Path.{sym, _∙_}
 use Rattle.trie_read.proofs.Compare.{first-none, first-some}
 use Rattle.trie_read.proofs.strings.first_byte.Statement.{statement}
 use Rattle.trie_read.proofs.strings.first_byte.Tie as tie

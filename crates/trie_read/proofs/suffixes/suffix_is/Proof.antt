@@ -1,6 +1,6 @@
 -- A key is the same where its value, its path and its reference are. Assumes nothing.
 use borrow.Author.Needs.{needs}
-use mathlib.Core.Path.{_≡_, sym, _∙_}
+use mathlib.Core.Path.{sym, _∙_}
 use Rattle.trie_read.proofs.Among.{same-all, same-value, same-path}
 use Rattle.trie_read.proofs.suffixes.suffix_is.Statement.{statement}
 use Rattle.trie_read.proofs.suffixes.suffix_is.Tie as tie

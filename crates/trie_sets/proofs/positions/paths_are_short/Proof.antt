@@ -3,7 +3,7 @@ use borrow.Author.Needs.{needs}
 use borrow.Author.Count.{below-more}
 use native.Mathlib.Omega.{arith}
 use Prim.Native.Nat.{ℕ, _-_, _≤_, _<_}
-use mathlib.Core.Path.{_≡_, sym}
+use mathlib.Core.Path.{sym}
 use Rattle.rows.specs.Sizes.{lengthAt}
 use Rattle.matcher.specs.Bytes.{pathLimit}
 use Rattle.buffer.proofs.Tests.{not-true}

@@ -2,9 +2,8 @@
 use borrow.Author.Needs.{needs}
 use native.Mathlib.Omega.{arith}
 use Prim.Native.Nat.{_+_}
-use mathlib.Core.Path.{_≡_, sym, ap, _∙_}
+use mathlib.Core.Path.{sym, ap, _∙_}
 use mathlib.Core.List.{[], _∷_, _++_, append-nil}
-use lib.ListN.{length}
 use Rattle.buffer.specs.Splice.{splice}
 use Rattle.buffer.proofs.Splice.{splice-then}
 use Rattle.trie_theory.specs.Forest.{none}
