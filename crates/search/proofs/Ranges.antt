@@ -1,18 +1,21 @@
 -- The value test, by the tests it is made of. Assumes nothing.
-use mathlib.Core.Path.{_≡_, refl, sym, ap, _∙_}
-use mathlib.Core.Bool.{false, _&&_, and-comm}
+use mathlib.Core.Path.{_≡_, refl, sym, ap, subst, _∙_}
+use mathlib.Core.Bool.{true, false, _&&_, and-comm}
 use Prim.Native.Nat.{ℕ, zero, suc, _+_, _-_, _*_, _/_, _%_, _^_, _≤_, _<_}
 use mathlib.Core.List.{List, [], _∷_, _++_, append-nil}
 use native.Mathlib.Omega.{arith}
 use native.Mathlib.Nat.{add-mul, one-mul, mul-assoc, le-div-iff-mul-le, div-lt-iff-lt-mul, one-le-pow, zero-lt-suc, pow-suc, pow-le-pow-right, div-eq-of-lt, lt-of-lt-of-le}
-use lib.ListN.{length, take, getD, length-append}
-use lib.Pow.{pow-add, shl-exact}
+use lib.ListN.{length, take, drop, getD, length-append}
+use lib.Pow.{pow-add, shl-exact, high}
 use lib.Seq.{take-all, length-take-le}
 use lib.Dec.{leb}
 use borrow.Author.Tests.{le-leb, lt-leb, leb-true, eq-eqb, ne-eqb}
-use Rattle.buffer.specs.Numbers.{number}
-use Rattle.buffer.proofs.Splice.{region-snoc}
-use Rattle.buffer.proofs.Digits.{number-append}
+use Rattle.buffer.specs.Lists.{all}
+use Rattle.buffer.specs.Splice.{region}
+use Rattle.buffer.specs.Numbers.{number, byte}
+use Rattle.buffer.proofs.Lists.{tested-take, tested-drop}
+use Rattle.buffer.proofs.Splice.{region-snoc, region-add, length-region}
+use Rattle.buffer.proofs.Digits.{number-append, number-below}
 use Rattle.buffer.proofs.Tests.{and-false, bool-ext}
 use Rattle.matcher.specs.declared.reach.Answer.the-variants.{Match, Mismatch, Incomplete}
 use Rattle.rows.specs.Sizes.{valueSize}
@@ -173,6 +176,24 @@ shifted x n = rw (bits n)
 
 pub shifted-out : (x n : ℕ) → x < 18446744073709551616 → valueSize ≤ n → 0 ≡ x / 256 ^ n
 shifted-out x n h l = sym (div-eq-of-lt (lt-of-lt-of-le h (pow-le-pow-right (zero-lt-suc 255) {i = 8} {j = n} l)))
+
+pub number-empty : (s : List ℕ) (o n : ℕ) → n ≡ 0 → 0 ≡ number (region s o n)
+unfolding number
+number-empty s o n e = rw e
+
+-- the first n of eight bytes that are read as one number
+pub number-shifted : (s : List ℕ) (o n x : ℕ) → all byte s ≡ true → o + valueSize ≤ length s → n ≤ valueSize → x ≡ number (region s o valueSize)
+    → x / 2 ^ (8 * (valueSize - n)) ≡ number (region s o n)
+number-shifted s o n x b l h e =
+    let j : ℕ = valueSize - n in
+    let first = region s o n in
+    let rest = region s (o + n) j in
+    let sum : valueSize ≡ n + j = omega arith in
+    let long : length rest ≡ j = length-region s (o + n) j (omega arith) in
+    let small : number rest < 256 ^ j = subst (λ (m : ℕ). number rest < 256 ^ m) long (number-below rest (tested-take byte j (drop (o + n) s) (tested-drop byte (o + n) s b))) in
+    let whole : x ≡ number first * 2 ^ (8 * j) + number rest =
+    e ∙ ap (λ (m : ℕ). number (region s o m)) sum ∙ ap number (region-add s o n j) ∙ number-append first rest ∙ ap (λ (m : ℕ). number first * 256 ^ m + number rest) long ∙ ap (λ (m : ℕ). number first * m + number rest) (sym (bits j)) in
+    ap (λ (y : ℕ). y / 2 ^ (8 * j)) whole ∙ high (number first) (8 * j) (rw (bits j) small)
 
 pub lowest-none : (k : List ℕ) → length k ≡ 0 → 0 ≡ lowest k
 unfolding lowest number

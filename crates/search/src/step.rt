@@ -2,6 +2,7 @@
 // of a leaf, is asked once; of a child or a suffix the value is asked first, and its bytes are copied only where they are needed.
 use crate::value::Span;
 use crate::value::span_behind;
+use crate::value::value_at;
 use crate::value::value_reach;
 use crate::value::value_with;
 use crate::value::wide;
@@ -339,7 +340,7 @@ pub(crate) fn take_key(
     if p + (next - path) > ENDED_LIMIT {
         return false;
     }
-    let value = value_with(from, to, v, &b[SUFFIX_SIZE..path]);
+    let value = value_at(from, to, v, b, SUFFIX_SIZE, path);
     if is_match(ask_path(value, pattern, literal, key, p, &b[path..next])) {
         return compose(key, v, p, b, path, next);
     }

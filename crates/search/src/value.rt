@@ -1,10 +1,12 @@
 // What the bytes known of a value say of a range.
+use buffer::numbers::get64;
 use matcher::reach::Answer;
 use rows::sizes::VALUE_SIZE;
 ghost use mathlib.Core.Path.{_≡_};
 ghost use Prim.Native.Nat.{ℕ, _+_, _-_, _/_, _^_, _≤_, _<_};
 ghost use mathlib.Core.List.{List, _++_};
 ghost use lib.ListN.{length};
+ghost use Rattle.buffer.specs.Splice.{region};
 ghost use Rattle.buffer.specs.Numbers.{number};
 ghost use Rattle.rows.specs.Sizes.{valueSize};
 ghost use Rattle.entries.specs.Query.{Query, valueReach, lowest};
@@ -93,23 +95,53 @@ pub(crate) fn span_behind(low: u64, high: u64, known: &[u8], n: usize) -> Span
     steps(low, high, lowest(known), left)
 }
 
-// The answer for a value of which v bytes were known and s is known too: from..to is the span behind those bytes.
-pub(crate) fn value_with(from: u64, to: u64, v: usize, s: &[u8]) -> Answer
-    requires { ⌜ v + length (now s) ≤ valueSize ⌝ }
+// The answer for a value of which so many bytes are known, the last of them a number x: from..to is the span of these.
+fn value_told(from: u64, to: u64, x: u64, known: usize) -> Answer
     ensures { λ r.
-        ⌜ ((q : Query) (k : List ℕ) → length k ≡ v → Spans q k (length (now (s .entry))) from to → r ≡ valueReach q (k ++ now (s .entry))) ⌝ }
+        ⌜ ((q : Query) (k s : List ℕ) → x ≡ number s → known ≡ length k + length s → Spans q k (length s) from to → r ≡ valueReach q (k ++ s)) ⌝ }
 {
-    let x = number_of(s);
     if x < from {
         return Answer::Mismatch;
     }
     if to < x {
         return Answer::Mismatch;
     }
-    if v + s.len() == VALUE_SIZE {
+    if known == VALUE_SIZE {
         return Answer::Match;
     }
     Answer::Incomplete
+}
+
+// The answer for a value of which v bytes were known and s is known too: from..to is the span behind those bytes.
+pub(crate) fn value_with(from: u64, to: u64, v: usize, s: &[u8]) -> Answer
+    requires { ⌜ v + length (now s) ≤ valueSize ⌝ }
+    ensures { λ r.
+        ⌜ ((q : Query) (k : List ℕ) → length k ≡ v → Spans q k (length (now (s .entry))) from to → r ≡ valueReach q (k ++ now (s .entry))) ⌝ }
+{
+    value_told(from, to, number_of(s), v + s.len())
+}
+
+// The number in b[at..end]. Where 8 bytes stand from there on they are read as one, and those too many shifted out.
+fn number_at(b: &[u8], at: usize, end: usize) -> u64
+    requires { ⌜ (at ≤ end) × (end ≤ length (now b)) × (end - at ≤ valueSize) ⌝ }
+    ensures { λ r. ⌜ r ≡ number (region (now (b .entry)) at (end - at)) ⌝ }
+{
+    if at == end {
+        return 0;
+    }
+    if at + VALUE_SIZE <= b.len() {
+        return get64(b, at) >> (8 * (VALUE_SIZE - (end - at)));
+    }
+    number_of(&b[at..end])
+}
+
+// The same where b[at..end] is known too.
+pub(crate) fn value_at(from: u64, to: u64, v: usize, b: &[u8], at: usize, end: usize) -> Answer
+    requires { ⌜ (at ≤ end) × (end ≤ length (now b)) × (v + (end - at) ≤ valueSize) ⌝ }
+    ensures { λ r.
+        ⌜ ((q : Query) (k : List ℕ) → length k ≡ v → Spans q k (end - at) from to → r ≡ valueReach q (k ++ region (now (b .entry)) at (end - at))) ⌝ }
+{
+    value_told(from, to, number_at(b, at, end), v + (end - at))
 }
 
 // Can a value whose first bytes are known be in the range? The pattern plays no part.

@@ -17,9 +17,8 @@ use Rattle.search.proofs.step.take_key.Statement.{statement}
 use Rattle.search.proofs.step.take_key.Tie as tie
 
 -- the span is that of the suffix's value bytes
-of-rest : {q : Query} {k : List ℕ} {from to : ℕ} (b : List ℕ) (v path : ℕ) → path ≤ length b → path - 22 ≡ valueSize - v → Spans q k (valueSize - v) from to
-    → Spans q k (length (part 22 path b)) from to
-of-rest b v path h e s = rw (length-part b 22 path h ∙ e) s
+of-rest : {q : Query} {k : List ℕ} {from to : ℕ} (v path : ℕ) → path - 22 ≡ valueSize - v → Spans q k (valueSize - v) from to → Spans q k (path - 22) from to
+of-rest v path e s = rw e s
 
 returns : tie.Need-returns
 returns c =
@@ -37,24 +36,24 @@ returns-2 c =
 
 returns-3 : tie.Need-returns-3
 returns-3 c =
-    let a = c .before .before .before .before .before .before .before .before .before .before .before .before .before .before .before .before .before .before .args in
-    let pre = c .before .before .before .before .before .before .before .before .before .before .before .before .before .before .before .before .before .before .pre .1 in
+    let a = c .before .before .before .before .before .before .before .before .before .before .before .before .before .before .before .before .before .args in
+    let pre = c .before .before .before .before .before .before .before .before .before .before .before .before .before .before .before .before .before .pre .1 in
     let m = c .before .before .before .before .before .before .before .before .ask-path in
     λ low high l.
     let q = asked (a .pattern .now) low high in
-    let value = c .before .before .before .before .before .before .before .before .before .before .before .value-with .ensures q (take (a .v) (a .key .now)) (length-take-le (a .v) (a .key .now) (omega arith)) (of-rest (a .b .now) (a .v) (a .path) (omega arith) (omega (arith, c .before .before .before .before .before .before .before .before .before .before .before .before .before .before .if1 .left)) l) in
+    let value = c .before .before .before .before .before .before .before .before .before .before .before .value-at .ensures q (take (a .v) (a .key .now)) (length-take-le (a .v) (a .key .now) (omega arith)) (of-rest (a .v) (a .path) (omega (arith, c .before .before .before .before .before .before .before .before .before .before .before .before .before .if1 .left)) l) in
     let wants = wants-told q (a .v) (a .p) (a .b .now) (a .path) (a .next) (a .key .now) (pre .0) (pre .1) (pre .2) (pre .4) (pre .5) _ _ _ value (m .ensures .0) (c .before .before .before .before .before .is-match .ensures) ∙ c .before .before .before .before .if3 .taken in
     taken-slot q (a .v) (a .p) (a .b .now) (a .path) (a .next) (a .key .now) (pre .0) (pre .1) (pre .2) (pre .4) (pre .5) _
     (known-front (a .v) (a .p) (a .key .now) _ (pre .0) (m .kept .1 .1 .1 .0 ∙ pre .0) (pre .1) (m .ensures .1)) _ _ wants (c .before .before .compose .ensures .0) (c .before .before .compose .ensures .1)
 
 returns-4 : tie.Need-returns-4
 returns-4 c =
-    let a = c .before .before .before .before .before .before .before .before .before .before .before .before .before .before .args in
-    let pre = c .before .before .before .before .before .before .before .before .before .before .before .before .before .before .pre .1 in
+    let a = c .before .before .before .before .before .before .before .before .before .before .before .before .before .args in
+    let pre = c .before .before .before .before .before .before .before .before .before .before .before .before .before .pre .1 in
     let m = c .before .before .before .before .ask-path in
     λ low high l.
     let q = asked (a .pattern .now) low high in
-    let value = c .before .before .before .before .before .before .before .value-with .ensures q (take (a .v) (a .key .now)) (length-take-le (a .v) (a .key .now) (omega arith)) (of-rest (a .b .now) (a .v) (a .path) (omega arith) (omega (arith, c .before .before .before .before .before .before .before .before .before .before .if1 .left)) l) in
+    let value = c .before .before .before .before .before .before .before .value-at .ensures q (take (a .v) (a .key .now)) (length-take-le (a .v) (a .key .now) (omega arith)) (of-rest (a .v) (a .path) (omega (arith, c .before .before .before .before .before .before .before .before .before .if1 .left)) l) in
     let wants = wants-told q (a .v) (a .p) (a .b .now) (a .path) (a .next) (a .key .now) (pre .0) (pre .1) (pre .2) (pre .4) (pre .5) _ _ _ value (m .ensures .0) (c .before .is-match .ensures) ∙ c .if3 .left in
     taken-out q (a .v) (a .p) (a .b .now) (a .path) (a .next) (a .key .now) (pre .0) (pre .1) (pre .2) (pre .4) (pre .5) _
     (known-front (a .v) (a .p) (a .key .now) _ (pre .0) (m .kept .1 .1 .1 .0 ∙ pre .0) (pre .1) (m .ensures .1)) wants
@@ -69,9 +68,6 @@ take-key-spec =
     (λ c. search needs)
     (λ c. search needs)
     returns-2
-    (λ c. search needs)
-    (λ c. search needs)
-    (λ c. search needs)
     (λ c κs. search needs)
     (λ c. search needs)
     (λ c. search needs)
