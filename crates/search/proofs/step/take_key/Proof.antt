@@ -3,12 +3,10 @@ use borrow.Author.Needs.{needs}
 use native.Mathlib.Omega.{arith}
 use mathlib.Core.Path.{_≡_, _∙_}
 use mathlib.Core.List.{List}
-use Prim.Native.Nat.{ℕ, _-_, _≤_}
-use lib.ListN.{length, take}
+use Prim.Native.Nat.{ℕ, _-_}
+use lib.ListN.{take}
 use lib.Seq.{length-take-le}
 use Rattle.rows.specs.Sizes.{valueSize}
-use Rattle.trie_read.specs.Shape.{part}
-use Rattle.trie_read.proofs.Stretch.{length-part}
 use Rattle.entries.specs.Query.{Query}
 use Rattle.search.specs.Asked.{asked}
 use Rattle.search.specs.Spans.{Spans}

@@ -1,5 +1,4 @@
 -- One law for each test of the number. Assumes nothing.
-use borrow.Author.Needs.{needs}
 use native.Mathlib.Omega.{arith}
 use Rattle.search.proofs.Ranges.{with-below, with-above, with-whole, with-part}
 use Rattle.search.proofs.value.value_told.Statement.{statement}
