@@ -186,7 +186,7 @@ pub first-not : (f : List ℕ → Bool) (k : List (List ℕ) → Bool) (s : List
 first-not f k s b h e = subst (λ (l : List (List ℕ)). first f k l ≡ false) (sym (h .labels)) (first-off k f (front s b) (labelsOf (back s b)) e)
 
 -- labels that begin with different bytes, the pattern's with no `*`
-unlike-fits : (c d : ℕ) (p s : List ℕ) → (c ≡ star → ⊥) → (c ≡ d → ⊥) → fitsLabel (upToSlash (c ∷ p)) (upToSlash (d ∷ s)) ≡ false
+pub unlike-fits : (c d : ℕ) (p s : List ℕ) → (c ≡ star → ⊥) → (c ≡ d → ⊥) → fitsLabel (upToSlash (c ∷ p)) (upToSlash (d ∷ s)) ≡ false
 unlike-fits c d p s w n = go (eqb c slash) refl (eqb d slash) refl
   where
     go : (a : Bool) → eqb c slash ≡ a → (b : Bool) → eqb d slash ≡ b → fitsLabel (cond a [] (c ∷ upToSlash p)) (cond b [] (d ∷ upToSlash s)) ≡ false
@@ -195,7 +195,7 @@ unlike-fits c d p s w n = go (eqb c slash) refl (eqb d slash) refl
     go false e true g = rw (byte-law (c ∷ upToSlash p) (λ z. absurd (omega arith)) w)
     go false e false g = rw (byte-law (c ∷ upToSlash p) (λ z. absurd (omega arith)) w, ne-eqb c d n)
 
-plain-not-deep : (c : ℕ) (p : List ℕ) → (c ≡ star → ⊥) → deep (upToSlash (c ∷ p)) ≡ false
+pub plain-not-deep : (c : ℕ) (p : List ℕ) → (c ≡ star → ⊥) → deep (upToSlash (c ∷ p)) ≡ false
 plain-not-deep c p w = go (eqb c slash)
   where
     go : (a : Bool) → deep (cond a [] (c ∷ upToSlash p)) ≡ false

@@ -14,7 +14,7 @@ ghost use Rattle.buffer.specs.Lists.{none};
 ghost use Rattle.glob.specs.Bytes.{slash};
 ghost use Rattle.glob.specs.Labels.{labelsOf};
 ghost use Rattle.glob.specs.Fit.{afterSome, first, fitsLabel, fitLabels, fitsPath};
-ghost use Rattle.glob.specs.Inner.{Says, isFit, Alike, Skipped, OffLabel, OffLabels, Begun, Single};
+ghost use Rattle.glob.specs.Inner.{Says, isFit, Alike, Skipped, OffLabel, OffLabels, Begun, Single, AlikeLabels};
 
 // `Never`: it fails now, and also once any of the first bytes (or labels) are taken away.
 pub(crate) enum Trial {
@@ -141,6 +141,35 @@ fn begin_unlike(pattern: &[u8], path: &[u8]) -> bool
     pattern[1] != path[1]
 }
 
+// How many bytes are the whole labels, none with a `*`, that a pattern and a path begin alike with? Where the next bytes differ before a `*`, it
+// does not fit: one more than the pattern has.
+fn equal_labels(pattern: &[u8], path: &[u8]) -> usize
+    requires { ⌜ (length (now pattern) ≡ 0 → ⊥) × Begun (now pattern) × Begun (now path) ⌝ }
+    ensures { λ r. ⌜ AlikeLabels (now (pattern .entry)) (now (path .entry)) r ⌝ }
+{
+    let mut n = 0;
+    let mut i = 1;
+    while i < pattern.len() {
+        if path.len() <= i {
+            return n;
+        }
+        if pattern[i] == STAR {
+            return n;
+        }
+        if pattern[i] != path[i] {
+            return pattern.len() + 1;
+        }
+        if pattern[i] == SLASH { // both labels end
+            n = i;
+        }
+        i += 1;
+    }
+    if path.len() == i {
+        return i;
+    }
+    n
+}
+
 // Label matching: tries the rest of a path against the pattern that remains.
 fn labels(pattern: &[u8], path: &[u8]) -> Trial
     requires { ⌜ Begun (now pattern) × Begun (now path) ⌝ }
@@ -154,6 +183,13 @@ fn labels(pattern: &[u8], path: &[u8]) -> Trial
     }
     if begin_unlike(pattern, path) {
         return Trial::Fails;
+    }
+    let n = equal_labels(pattern, path);
+    if n > pattern.len() {
+        return Trial::Fails; // but a `**` before may try the next label
+    }
+    if n > 0 {
+        return labels(&pattern[n..], &path[n..]);
     }
     let a = next_slash(pattern, 1);
     if is_deep(&pattern[1..a]) {
