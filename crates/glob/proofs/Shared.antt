@@ -1,13 +1,13 @@
 -- Whole labels that a pattern and a path begin with alike. Assumes nothing.
 use mathlib.Core.Path.{_≡_, refl, sym, ap, ap₂, subst, _∙_}
 use mathlib.Core.List.{List, [], _∷_, _++_, append-assoc}
-use mathlib.Core.Bool.{Bool, true, false, _&&_}
+use mathlib.Core.Bool.{Bool, true, false, cond, _&&_}
 use Prim.Native.Nat.{ℕ, _+_, _*_, _<_, _≤_}
 use native.Mathlib.Omega.{arith}
 use lib.ListN.{length, getD}
 use lib.Dec.{eqb}
 use borrow.Author.Tests.{eq-eqb, ne-eqb}
-use Rattle.buffer.specs.Lists.{All}
+use Rattle.buffer.specs.Lists.{none, All}
 use Rattle.buffer.specs.Lists.All.{nil, cons}
 use Rattle.buffer.proofs.Lists.{all-head, all-tail, all-append}
 use Rattle.buffer.proofs.Tests.{and-false}
@@ -16,9 +16,9 @@ use Rattle.glob.specs.Labels.{upToSlash, labelsOf, deep}
 use Rattle.glob.specs.Fit.{first, fitsLabel, fitLabels}
 use Rattle.glob.specs.Inner.{Says, Begun, SharedLabels, AlikeLabels}
 use Rattle.glob.specs.declared.fit.Trial.the-variants.{Fails}
-use Rattle.glob.proofs.Parts.{back, back-all, back-step, length-back}
-use Rattle.glob.proofs.Trials.{fit-one, first-on, first-off, end-law}
-use Rattle.glob.proofs.Cuts.{unlike-fits, plain-not-deep}
+use Rattle.glob.proofs.Parts.{no-items, back, back-all, back-step, back-end, length-back}
+use Rattle.glob.proofs.Trials.{fit-one, first-on, end-law}
+use Rattle.glob.proofs.Cuts.{labels-end-law, unlike-fits, plain-not-deep}
 
 -- a byte that is neither `*` nor `/`
 abbrev Own : ℕ → Type 0
@@ -124,16 +124,32 @@ module _ (p s : List ℕ) where
               (subst (λ (t : List (List ℕ)). Says (first f k) t r) (sym (labels (back s n) (back s i) (h .in-s))) (first-on k f (label (back s i)) (labelsOf (back s i)) r fits y)));
         }
 
-    -- the bytes at i differ, the pattern's no `*`
-    pub shared-off : i < length p → i < length s → (getD p i 0 ≡ star → ⊥) → (getD p i 0 ≡ getD s i 0 → ⊥) → SharedLabels p s n → fitLabels (labelsOf p) (labelsOf s) ≡ false
-    shared-off l m w e a =
-        let f = fitsLabel (label (back p i)) in
+    -- what is left of the labels, or what stands behind them, does not fit
+    shared-fails : deep (upToSlash (back p i)) ≡ false → fitsLabel (upToSlash (back p i)) (upToSlash (back s i)) && fitLabels (labelsOf (back p i)) (labelsOf (back s i)) ≡ false → SharedLabels p s n → fitLabels (labelsOf p) (labelsOf s) ≡ false
+    shared-fails d e a =
         let k = fitLabels (labelsOf (back p i)) in
-        let c = getD p i 0 in
-        let d = getD s i 0 in
-        let plain : deep (upToSlash (back p i)) ≡ false = ap (λ (t : List ℕ). deep (upToSlash t)) (back-step p i l) ∙ plain-not-deep c (back p (i + 1)) w in
-        let fails : f (label (back s i)) ≡ false = own-fits (h .bytes) (upToSlash (back p i)) (upToSlash (back s i)) (h .own) ∙ ap₂ (λ (x y : List ℕ). fitsLabel (upToSlash x) (upToSlash y)) (back-step p i l) (back-step s i m) ∙ unlike-fits c d (back p (i + 1)) (back s (i + 1)) w e in
-        a .passes Fails (ap (λ (q : List (List ℕ) → Bool). q (labelsOf (back s n))) (takes plain) ∙ ap (first f k) (labels (back s n) (back s i) (h .in-s)) ∙ first-off k f (label (back s i)) (labelsOf (back s i)) fails)
+        a .passes Fails
+        (ap₂ (λ (q : List (List ℕ) → Bool) (t : List (List ℕ)). q t) (takes d) (labels (back s n) (back s i) (h .in-s)) ∙ ap (λ (b : Bool). b && k (labelsOf (back s i))) (own-fits (h .bytes) (upToSlash (back p i)) (upToSlash (back s i)) (h .own)) ∙ e)
+
+    -- the bytes at i differ, the pattern's no `*`
+    pub shared-unlike : i < length p → i < length s → (getD p i 0 ≡ star → ⊥) → (getD p i 0 ≡ getD s i 0 → ⊥) → SharedLabels p s n → fitLabels (labelsOf p) (labelsOf s) ≡ false
+    shared-unlike l m w e =
+        let b = back-step p i l in
+        shared-fails (ap (λ (t : List ℕ). deep (upToSlash t)) b ∙ plain-not-deep (getD p i 0) (back p (i + 1)) w)
+        (ap (λ (b : Bool). b && fitLabels (labelsOf (back p i)) (labelsOf (back s i))) (ap₂ (λ (x y : List ℕ). fitsLabel (upToSlash x) (upToSlash y)) b (back-step s i m) ∙ unlike-fits (getD p i 0) (getD s i 0) (back p (i + 1)) (back s (i + 1)) w e))
+
+    -- the pattern has ended at i, and s goes on
+    pub shared-longer : length p ≤ i → i < length s → SharedLabels p s n → fitLabels (labelsOf p) (labelsOf s) ≡ false
+    shared-longer l m =
+        let b = no-items (back p i) (back-end p i l) in
+        shared-fails (ap (λ (t : List ℕ). deep (upToSlash t)) b) (ap₂ (λ (x y : List ℕ). fitsLabel (upToSlash x) (upToSlash y) && fitLabels (labelsOf x) (labelsOf y)) b (back-step s i m) ∙ more (getD s i 0) (back s (i + 1)))
+      where
+        more : (c : ℕ) (t : List ℕ) → fitsLabel [] (upToSlash (c ∷ t)) && fitLabels [] (labelsOf (c ∷ t)) ≡ false
+        more c t = rw (end-law [] refl, labels-end-law [] refl) (go (eqb c slash))
+          where
+            go : (b : Bool) → none (cond b [] (c ∷ upToSlash t)) && none (cond b (upToSlash t ∷ labelsOf t) (labelsOf t)) ≡ false
+            go true = refl
+            go false = refl
 
 -- without them both are shorter
 pub shared-falls : (p s : List ℕ) (r : ℕ) → 0 < r → SharedLabels p s r → 2 * (length (back p r) + length (back s r)) < 2 * (length p + length s)

@@ -141,8 +141,8 @@ fn begin_unlike(pattern: &[u8], path: &[u8]) -> bool
     pattern[1] != path[1]
 }
 
-// How many bytes are the whole labels, none with a `*`, that a pattern and a path begin alike with? Where the next bytes differ before a `*`, it
-// does not fit: one more than the pattern has.
+// How many bytes are the whole labels, none with a `*`, that a pattern and a path begin alike with? More than the pattern has where it does not
+// fit: bytes differ before a `*`, or the pattern has none and the path goes on.
 fn equal_labels(pattern: &[u8], path: &[u8]) -> usize
     requires { ⌜ (length (now pattern) ≡ 0 → ⊥) × Begun (now pattern) × Begun (now path) ⌝ }
     ensures { λ r. ⌜ AlikeLabels (now (pattern .entry)) (now (path .entry)) r ⌝ }
@@ -164,10 +164,7 @@ fn equal_labels(pattern: &[u8], path: &[u8]) -> usize
         }
         i += 1;
     }
-    if path.len() == i {
-        return i;
-    }
-    n
+    path.len() // the pattern has ended: so has the path, or it does not fit
 }
 
 // Label matching: tries the rest of a path against the pattern that remains.
