@@ -32,7 +32,7 @@ returns-3 c =
     let s = h .before .args .path .now in
     let m : h .loop .i < length s = omega (arith, c .before .before .before .before .before .if1 .left) in
     alike-off p s (length p + 1) (omega arith)
-    (shared-unlike p s (h .loop .n) (h .loop .i) (h .loop .inv .2 (λ z. omega (arith, m)) .1) (c .before .before .before .before .before .before .loop-test .taken) (omega (arith, m)) (c .before .before .before .if2 .left) (c .if3 .taken) (h .loop .inv .1))
+    (shared-unlike p s (h .loop .n) (h .loop .i) (h .loop .inv .2 (λ z. omega (arith, m)) .1) (c .before .before .before .before .before .before .loop-test .taken) (omega (arith, m)) (c .before .before .before .if2 .left) (λ z. omega (arith, z, c .if3 .taken)) (h .loop .inv .1))
 
 loop-again : tie.Need-loop-again Inv-loop μ-loop
 loop-again c =
