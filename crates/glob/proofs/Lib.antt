@@ -1,6 +1,6 @@
 -- Laws that belong to no function. They are for the proofs of crate matcher too.
 pub mod Parts
-mod Skips
+pub mod Skips
 pub mod Trials
 pub mod Cuts
 mod Begins

@@ -10,11 +10,13 @@ use lib.Seq.{getD-drop}
 use lib.Dec.{eqb}
 use borrow.Author.Tests.{eq-eqb, ne-eqb}
 use Rattle.buffer.specs.Lists.{none, all}
-use Rattle.matcher.specs.Bytes.{slash, labelByte}
+use Rattle.matcher.specs.Bytes.{slash, labelByte, LabelAt}
 use Rattle.matcher.specs.Labels.{upToSlash, labelsOf}
 use Rattle.matcher.specs.Form.{apart, pathLabel, formedPath}
 use Rattle.matcher.specs.Reach.{beginsPath}
 use Rattle.buffer.proofs.Tests.{and-false, not-both}
+use Rattle.glob.specs.Inner.{Skipped}
+use Rattle.glob.proofs.Skips.{through}
 use Rattle.glob.proofs.Parts.{step, no-items}
 
 -- c may stand before next
@@ -39,6 +41,11 @@ module _ (m : ℕ) (s : List ℕ) (i : ℕ) (l : i < length s) where
 
   pub apart-on : mayStand m (getD s i 0) (getD s (i + 1) 0) ≡ true → apart m (drop i s) ≡ apart m (drop (i + 1) s)
   apart-on e = apart-step m s i l ∙ rw e
+
+-- label bytes say nothing of what comes after them
+pub apart-past : (m : ℕ) (s : List ℕ) (n from r : ℕ) → labelByte m ≡ false → n < length s → Skipped (LabelAt s) n from r → apart m (drop from s) ≡ apart m (drop r s)
+apart-past m s n from r e l a =
+    through (LabelAt s) n from (λ (i : ℕ). apart m (drop from s) ≡ apart m (drop i s)) (λ i h f q. q ∙ apart-on m s i (omega arith) (sym (label-stands m _ _ e f))) r a refl
 
 pub apart-end : (m : ℕ) (s : List ℕ) (i : ℕ) → length s ≤ i → apart m (drop i s) ≡ true
 apart-end m s i l = ap (apart m) (drop-of-length-le s l)

@@ -2,10 +2,11 @@
 use glob::split::byte_at;
 ghost use mathlib.Core.Path.{_≡_};
 ghost use mathlib.Core.Bool.{false, not, cond};
-ghost use Prim.Native.Nat.{_+_, _<_};
+ghost use Prim.Native.Nat.{_+_, _<_, _≤_};
 ghost use lib.Dec.{eqb};
 ghost use lib.ListN.{length, getD};
-ghost use Rattle.matcher.specs.Bytes.{labelByte, Marks};
+ghost use Rattle.glob.specs.Inner.{Skipped};
+ghost use Rattle.matcher.specs.Bytes.{labelByte, LabelAt, Marks};
 ghost use Rattle.matcher.specs.Form.{apart};
 
 // May a label hold this byte, by a table that follows the rule?
@@ -31,12 +32,39 @@ fn may_stand(marks: &[u8; 256], s: &[u8], i: usize, mark: u8) -> bool
     false
 }
 
+// Where do the label bytes from i on end? At most four are passed over.
+fn label_end(marks: &[u8; 256], s: &[u8], i: usize) -> usize
+    requires { ⌜ Marks (now marks) × (i + 4 ≤ length (now s)) ⌝ }
+    ensures { λ r. ⌜ Skipped (LabelAt (now (s .entry))) (i + 3) i r ⌝ }
+{
+    if !marked(marks, s[i]) {
+        return i;
+    }
+    if !marked(marks, s[i + 1]) {
+        return i + 1;
+    }
+    if !marked(marks, s[i + 2]) {
+        return i + 2;
+    }
+    if !marked(marks, s[i + 3]) {
+        return i + 3;
+    }
+    i + 4
+}
+
 // Are these label bytes and marks, of which no two stand together? A mark is no label byte.
 pub(crate) fn are_apart(marks: &[u8; 256], s: &[u8], mark: u8) -> bool
     requires { ⌜ Marks (now marks) × (labelByte mark ≡ false) ⌝ }
     ensures { λ r. ⌜ r ≡ apart mark (now (s .entry)) ⌝ }
 {
     let mut i = 0;
+    while i + 4 < s.len() {
+        let end = label_end(marks, s, i);
+        if !may_stand(marks, s, end, mark) {
+            return false;
+        }
+        i = end + 1;
+    }
     while i < s.len() {
         if !may_stand(marks, s, i, mark) {
             return false;
