@@ -14,7 +14,7 @@ ghost use Rattle.buffer.specs.Lists.{all};
 ghost use Rattle.glob.specs.Inner.{Begun};
 ghost use Rattle.matcher.specs.Bytes.{Marks};
 ghost use Rattle.matcher.specs.Labels.{labelsOf};
-ghost use Rattle.matcher.specs.Form.{patternLabel, formedPath, formedPattern, pathForm, patternForm, isFine, pathNumber, patternNumber};
+ghost use Rattle.matcher.specs.Form.{patternLabel, formedPath, formedPattern, tooMany, pathForm, patternForm, isFine, pathNumber, patternNumber};
 ghost use Rattle.matcher.specs.Reach.{beginsPath};
 
 // How a path or a pattern is formed. `TooLong`: over 200 bytes, or a pattern with over 32 `/`.
@@ -138,6 +138,16 @@ fn is_pattern(pattern: &[u8]) -> bool
     false
 }
 
+// Has a pattern more labels than it may? One of no more bytes than that is not counted: each label has its `/`.
+fn has_too_many(pattern: &[u8]) -> bool
+    ensures { λ r. ⌜ r ≡ tooMany (now (pattern .entry)) ⌝ }
+{
+    if pattern.len() <= PATTERN_LABEL_LIMIT {
+        return false;
+    }
+    PATTERN_LABEL_LIMIT < label_count(pattern)
+}
+
 // The form of a pattern: length and number of labels first, then its labels.
 pub fn check_pattern(pattern: &[u8]) -> Form
     ensures { λ r. ⌜ r ≡ patternForm (now (pattern .entry)) ⌝ }
@@ -145,7 +155,7 @@ pub fn check_pattern(pattern: &[u8]) -> Form
     if PATH_LIMIT < pattern.len() {
         return Form::TooLong;
     }
-    if PATTERN_LABEL_LIMIT < label_count(pattern) {
+    if has_too_many(pattern) {
         return Form::TooLong;
     }
     if is_pattern(pattern) {
