@@ -5,10 +5,9 @@ use mathlib.Core.Bool.{Bool, true, false, not, _&&_, _||_}
 use Prim.Native.Nat.{ℕ, suc, _+_, _-_, _<_, _≤_}
 use native.Mathlib.Omega.{arith}
 use lib.ListN.{length, take, drop, getD, length-take, length-drop, drop-of-length-le}
-use lib.Seq.{length-take-le, take-take, take-add, drop-drop, take-length, drop-length}
+use lib.Seq.{length-take-le, take-take, take-add, drop-drop, drop-length}
 use lib.Dec.{eqb}
 use borrow.Author.Tests.{eqb-true, ne-eqb}
-use Rattle.buffer.specs.Lists.{none}
 use Rattle.buffer.proofs.Tests.{not-both, and-left, and-right}
 use Rattle.glob.specs.Bytes.{slash, star}
 use Rattle.glob.specs.Labels.{upToSlash, labelsOf, deep}

@@ -1,19 +1,19 @@
 -- Bytes that differ from those with which every path that fits begins are a mismatch. Assumes nothing.
 use mathlib.Core.Path.{_≡_, refl, sym, ap, _∙_}
 use mathlib.Core.List.{List, [], _∷_, _++_, append-assoc}
-use mathlib.Core.Bool.{Bool, true, false, not, _||_}
+use mathlib.Core.Bool.{Bool, true, false}
 use Prim.Native.Nat.{ℕ, zero, suc, _+_, _-_, _≤_, _<_}
 use native.Mathlib.Omega.{arith}
 use lib.ListN.{length, take, drop, getD, length-take}
 use lib.Seq.{length-take-le, take-append-le, take-append-add, take-add, drop-at, drop-cons}
-use lib.Dec.{eqb, eqb-refl}
+use lib.Dec.{eqb}
 use borrow.Author.Tests.{eq-eqb, ne-eqb, eqb-true}
 use Rattle.buffer.specs.Lists.{all}
 use Rattle.buffer.proofs.Tests.{not-both, and-left}
 use Rattle.glob.specs.Prefix.{LiteralPrefix, differs}
 use Rattle.matcher.specs.Bytes.{slash, endByte}
 use Rattle.matcher.specs.Labels.{labelsOf}
-use Rattle.matcher.specs.Form.{pathLabel, formedPath}
+use Rattle.matcher.specs.Form.{pathLabel}
 use Rattle.matcher.specs.Continued.{Continued, Told}
 use Rattle.matcher.specs.Reach.{reachOf, RuledOut, byteLimit, LastByte}
 use Rattle.matcher.specs.declared.reach.Answer.{Answer}

@@ -1,8 +1,8 @@
 -- `glob::prefix::literal_prefix` meets its contract: label by label, `Led`. Assumes nothing.
-use mathlib.Core.Path.{_≡_, sym, ap, subst, _∙_}
-use Prim.Native.Nat.{_+_, _-_}
+use mathlib.Core.Path.{sym, _∙_}
+use Prim.Native.Nat.{_-_}
 use native.Mathlib.Omega.{arith}
-use lib.ListN.{length, take, drop}
+use lib.ListN.{length}
 use borrow.Author.Needs.{needs}
 use Rattle.glob.proofs.Leading.{Led, led-none, led-prefix, no-prefix, stop-inside, led-on}
 use Rattle.glob.proofs.prefix.literal_prefix.Statement.{statement}
