@@ -1,13 +1,15 @@
 -- The laws of `beginsLabel` and `beginsLabels`, as the code meets them. Assumes nothing.
 use mathlib.Core.Path.{_≡_, refl, sym, ap₂, _∙_}
 use mathlib.Core.List.{List, [], _∷_}
-use mathlib.Core.Bool.{true, false, cond, _&&_, _||_}
-use Prim.Native.Nat.{ℕ}
+use mathlib.Core.Bool.{true, false, cond, _&&_, _||_, or-true}
+use Prim.Native.Nat.{ℕ, _<_}
 use native.Mathlib.Omega.{arith}
 use lib.ListN.{length, getD}
 use lib.Dec.{eqb, eqb·suc-zero}
+use borrow.Author.Tests.{eq-eqb}
 use Rattle.buffer.specs.Lists.{none}
-use Rattle.glob.specs.Bytes.{star}
+use Rattle.buffer.proofs.Tests.{not-both}
+use Rattle.glob.specs.Bytes.{slash, star}
 use Rattle.glob.specs.Labels.{labelsOf, deep}
 use Rattle.glob.specs.Fit.{fitsLabel}
 use Rattle.glob.specs.Begins.{beginsLabel, beginsLabels}
@@ -33,12 +35,20 @@ pub labels-end : (p k : List ℕ) → length p ≡ 0 → Begun k → eqb (length
 labels-end p [] e b = rw (no-labels p e)
 labels-end p (x ∷ k) e b = rw (no-labels p e) (eqb·suc-zero (length k) ∙ sym (some-labels (x ∷ k) (λ z. absurd (omega arith)) b))
 
-pub labels-done : (p k : List ℕ) → (length p ≡ 0 → ⊥) → Begun p → length k ≡ 0 → true ≡ beginsLabels (labelsOf p) (labelsOf k)
-labels-done p k f b e = rw (no-labels k e) (go (labelsOf p) (some-labels p f b))
+-- nothing is known, or the `/` of a label that any may be
+pub labels-few : (p k : List ℕ) → (length p ≡ 0 → ⊥) → Begun p → Begun k → length k < 2 → true ≡ beginsLabels (labelsOf p) (labelsOf k)
+labels-few p [] f b d l = go (labelsOf p) (some-labels p f b)
   where
     go : (ps : List (List ℕ)) → none ps ≡ false → true ≡ beginsLabels ps []
-    go [] h = refl
+    go [] h = not-both refl h
     go (q ∷ ps) h = refl
+labels-few p (c ∷ []) f b d l = rw (eq-eqb c slash (d (λ z. absurd (omega arith)))) (go (labelsOf p) (some-labels p f b))
+  where
+    go : (ps : List (List ℕ)) → none ps ≡ false → true ≡ beginsLabels ps ([] ∷ [])
+    go [] h = not-both refl h
+    go ([] ∷ ps) h = refl
+    go ((q ∷ qs) ∷ ps) h = sym (or-true (deep (q ∷ qs)))
+labels-few p (c ∷ x ∷ k) f b d l = absurd (omega arith)
 
 pub labels-more : (p k : List ℕ) (a b : ℕ) → Cut p a → Cut k b
     → beginsLabels (labelsOf p) (labelsOf k) ≡ deep (front p a) || cond (none (labelsOf (back k b))) (beginsLabel (front p a) (front k b)) (fitsLabel (front p a) (front k b) && beginsLabels (labelsOf (back p a)) (labelsOf (back k b)))

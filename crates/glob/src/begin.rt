@@ -35,8 +35,8 @@ fn labels_begin(pattern: &[u8], known: &[u8]) -> bool
     if pattern.len() == 0 {
         return known.len() == 0;
     }
-    if known.len() == 0 {
-        return true;
+    if known.len() < 2 {
+        return true; // at most a `/` is known, and any label may follow
     }
     let a = next_slash(pattern, 1);
     let b = next_slash(known, 1);

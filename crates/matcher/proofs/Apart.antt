@@ -58,6 +58,11 @@ pub begins-some : (k : List ℕ) → (length k ≡ 0 → ⊥) → beginsPath k �
 begins-some [] f = absurd (f refl)
 begins-some (c ∷ k) f = refl
 
+pub begins-slash : (k : List ℕ) → length k ≡ 1 → getD k 0 0 ≡ slash → true ≡ beginsPath k
+begins-slash [] l e = absurd (omega arith)
+begins-slash (c ∷ []) l e = rw e
+begins-slash (c ∷ x ∷ k) l e = absurd (omega arith)
+
 -- the last byte
 abbrev pub lastByte : List ℕ → ℕ
 lastByte s = getD s (length s - 1) 0

@@ -1,13 +1,14 @@
 -- The proof of the cycle of calls {labels_begin}. The measure is the pattern's bytes left. Assumes nothing.
 use mathlib.Core.Path.{sym, _∙_}
 use Prim.Native.Nat.{ℕ, _+_, _<_}
+use native.Mathlib.Omega.{arith}
 use lib.ListN.{length}
 use borrow.Author.Needs.{needs}
 use borrow.Fn.Kinds.{In}
 use borrow.Fn.PlainCycle.{Measures, is, falls, and}
 use Rattle.glob.specs.Inner.{Cut}
 use Rattle.glob.proofs.Cuts.{cut-law}
-use Rattle.glob.proofs.Begins.{labels-end, labels-done, labels-more, last-cut, other-cut}
+use Rattle.glob.proofs.Begins.{labels-end, labels-few, labels-more, last-cut, other-cut}
 use Rattle.glob.proofs.begin.labels_begin.Reads as labels-begin
 use Rattle.glob.proofs.begin.labels_begin.Kinds as labels-begin-kinds
 use Rattle.glob.proofs.begin.+labels_begin.Lts-labels_begin as labels-begin-lts
@@ -35,7 +36,7 @@ labels-begin-returns : (t : ℕ) → labels-begin-lts.Need-returns (labels-begin
 labels-begin-returns t c = labels-end (c .before .before .before .args .pattern .now) (c .before .before .before .args .known .now) (c .if1 .taken) (c .before .before .before .pre .1 .1)
 
 labels-begin-returns-2 : (t : ℕ) → labels-begin-lts.Need-returns-2 (labels-begin-calls t) (labels-begin-at t) labels-begin.Post
-labels-begin-returns-2 t c = labels-done (c .before .before .before .before .args .pattern .now) (c .before .before .before .before .args .known .now) (c .before .if1 .left) (c .before .before .before .before .pre .1 .0) (c .if2 .taken)
+labels-begin-returns-2 t c = labels-few (c .before .before .before .before .args .pattern .now) (c .before .before .before .before .args .known .now) (c .before .if1 .left) (c .before .before .before .before .pre .1 .0) (c .before .before .before .before .pre .1 .1) (c .if2 .taken)
 
 -- the first labels, cut off
 labels-begin-cuts : (t : ℕ) (c : labels-begin-lts.After-next-slash2 (labels-begin-calls t) (labels-begin-at t) labels-begin.Post) → Cut (c .before .before .before .before .before .before .args .pattern .now) (c .before .next-slash .result) × Cut (c .before .before .before .before .before .before .args .known .now) (c .next-slash2 .result)
@@ -43,7 +44,7 @@ labels-begin-cuts t c =
     let start = c .before .before .before .before .before .before in
     let a = c .before .next-slash in
     let b = c .next-slash2 in
-    (cut-law (start .args .pattern .now) (a .result) (c .before .before .before .if1 .left) (start .pre .1 .0) (a .ensures .0) (a .ensures .1), cut-law (start .args .known .now) (b .result) (c .before .before .if2 .left) (start .pre .1 .1) (b .ensures .0) (b .ensures .1))
+    (cut-law (start .args .pattern .now) (a .result) (c .before .before .before .if1 .left) (start .pre .1 .0) (a .ensures .0) (a .ensures .1), cut-law (start .args .known .now) (b .result) (λ z. absurd (omega (arith, c .before .before .if2 .left, z))) (start .pre .1 .1) (b .ensures .0) (b .ensures .1))
 
 labels-begin-returns-3 : (t : ℕ) → labels-begin-lts.Need-returns-3 (labels-begin-calls t) (labels-begin-at t) labels-begin.Post
 labels-begin-returns-3 t c =
