@@ -182,10 +182,10 @@ fn labels(pattern: &[u8], path: &[u8]) -> Trial
         return Trial::Fails;
     }
     let n = equal_labels(pattern, path);
-    if n > pattern.len() {
-        return Trial::Fails; // but a `**` before may try the next label
-    }
     if n > 0 {
+        if n > pattern.len() {
+            return Trial::Fails; // but a `**` before may try the next label
+        }
         return labels(&pattern[n..], &path[n..]);
     }
     let a = next_slash(pattern, 1);

@@ -114,11 +114,11 @@ descend-returns-5 : (t : ℕ) → descend-lts.Need-returns-5 (descend-calls t) (
 descend-returns-5 t c = never-twice (fitLabels (labelsOf (c .before .before .before .before .before .before .before .before .args .pattern .now))) (labelsOf (c .before .before .before .before .before .before .before .before .args .path .now)) (c .before .loop .inv .2 .1 (omega (arith, c .loop-test .left)))
 
 -- the first labels, cut off
-labels-cut : (t : ℕ) (c : labels-lts.After-next-slash (labels-calls t) (labels-at t) labels.Post) → Cut (c .before .before .before .before .before .before .before .before .before .args .pattern .now) (c .next-slash .result)
-labels-cut t c = cut-law (c .before .before .before .before .before .before .before .before .before .args .pattern .now) (c .next-slash .result) (c .before .before .before .before .before .before .if1 .left) (c .before .before .before .before .before .before .before .before .before .pre .1 .0) (c .next-slash .ensures .0) (c .next-slash .ensures .1)
+labels-cut : (t : ℕ) (c : labels-lts.After-next-slash (labels-calls t) (labels-at t) labels.Post) → Cut (c .before .before .before .before .before .before .before .before .args .pattern .now) (c .next-slash .result)
+labels-cut t c = cut-law (c .before .before .before .before .before .before .before .before .args .pattern .now) (c .next-slash .result) (c .before .before .before .before .before .if1 .left) (c .before .before .before .before .before .before .before .before .pre .1 .0) (c .next-slash .ensures .0) (c .next-slash .ensures .1)
 
-labels-cut2 : (t : ℕ) (c : labels-lts.After-next-slash2 (labels-calls t) (labels-at t) labels.Post) → Cut (c .before .before .before .before .before .before .before .before .before .before .before .before .before .before .args .path .now) (c .next-slash2 .result)
-labels-cut2 t c = cut-law (c .before .before .before .before .before .before .before .before .before .before .before .before .before .before .args .path .now) (c .next-slash2 .result) (c .before .if7 .left) (c .before .before .before .before .before .before .before .before .before .before .before .before .before .before .pre .1 .1) (c .next-slash2 .ensures .0) (c .next-slash2 .ensures .1)
+labels-cut2 : (t : ℕ) (c : labels-lts.After-next-slash2 (labels-calls t) (labels-at t) labels.Post) → Cut (c .before .before .before .before .before .before .before .before .before .before .before .before .before .args .path .now) (c .next-slash2 .result)
+labels-cut2 t c = cut-law (c .before .before .before .before .before .before .before .before .before .before .before .before .before .args .path .now) (c .next-slash2 .result) (c .before .if7 .left) (c .before .before .before .before .before .before .before .before .before .before .before .before .before .pre .1 .1) (c .next-slash2 .ensures .0) (c .next-slash2 .ensures .1)
 
 labels-returns : (t : ℕ) → labels-lts.Need-returns (labels-calls t) (labels-at t) labels.Post
 unfolding fit
@@ -132,18 +132,18 @@ labels-returns-3 : (t : ℕ) → labels-lts.Need-returns-3 (labels-calls t) (lab
 labels-returns-3 t c = c .before .begin-unlike .ensures (c .if3 .taken)
 
 labels-returns-4 : (t : ℕ) → labels-lts.Need-returns-4 (labels-calls t) (labels-at t) labels.Post
-labels-returns-4 t c = c .before .equal-labels .ensures .1 (omega (arith, c .if4 .taken))
+labels-returns-4 t c = c .before .before .equal-labels .ensures .1 (omega (arith, c .if5 .taken))
 
 -- whole labels are alike: what is said of the others is so of all
-labels-shared : (t : ℕ) (c : labels-lts.Then5 (labels-calls t) (labels-at t) labels.Post) → SharedLabels (c .before .before .before .before .before .before .before .before .args .pattern .now) (c .before .before .before .before .before .before .before .before .args .path .now) (c .before .before .equal-labels .result)
-labels-shared t c = c .before .before .equal-labels .ensures .0 (omega (arith, c .before .if4 .left))
+labels-shared : (t : ℕ) (c : labels-lts.Else5 (labels-calls t) (labels-at t) labels.Post) → SharedLabels (c .before .before .before .before .before .before .before .before .args .pattern .now) (c .before .before .before .before .before .before .before .before .args .path .now) (c .before .before .equal-labels .result)
+labels-shared t c = c .before .before .equal-labels .ensures .0 (omega (arith, c .if5 .left))
 
 labels-labels-requires : (t : ℕ) → labels-lts.Need-labels-requires (labels-calls t) (labels-at t) labels.Post
 labels-labels-requires t c κs =
     let d = c .before .before in
     let start = d .before .before .before .before .before .before .before .before in
     let h = labels-shared t d in
-    let less = shared-falls (start .args .pattern .now) (start .args .path .now) (d .before .before .equal-labels .result) (omega (arith, d .if5 .taken)) h in
+    let less = shared-falls (start .args .pattern .now) (start .args .path .now) (d .before .before .equal-labels .result) (omega (arith, d .before .if4 .taken)) h in
     (omega (arith, start .pre .0, less), (h .begun-pattern, h .begun-path))
 
 labels-returns-5 : (t : ℕ) → labels-lts.Need-returns-5 (labels-calls t) (labels-at t) labels.Post
@@ -152,31 +152,31 @@ labels-returns-5 t c = labels-shared t (c .before .before .before) .passes (c .l
 labels-descend-requires : (t : ℕ) → labels-lts.Need-descend-requires (labels-calls t) (labels-at t) labels.Post
 labels-descend-requires t c κs =
     let d = c .before .before .before .before in
-    (search needs, (labels-cut t d .begun, d .before .before .before .before .before .before .before .before .before .pre .1 .1))
+    (search needs, (labels-cut t d .begun, d .before .before .before .before .before .before .before .before .pre .1 .1))
 
 labels-labels-requires-2 : (t : ℕ) → labels-lts.Need-labels-requires-2 (labels-calls t) (labels-at t) labels.Post
 labels-labels-requires-2 t c κs =
     let e = c .before .before .before .before .before .before in
     let d = e .before .before .before .before .before in
-    let start = d .before .before .before .before .before .before .before .before .before in
+    let start = d .before .before .before .before .before .before .before .before in
     let less = cut-falls (start .args .pattern .now) (start .args .path .now) (d .next-slash .result) (e .next-slash2 .result) (labels-cut t d) (labels-cut2 t e) in
     (omega (arith, start .pre .0, less), (labels-cut t d .begun, labels-cut2 t e .begun))
 
 labels-returns-6 : (t : ℕ) → labels-lts.Need-returns-6 (labels-calls t) (labels-at t) labels.Post
 labels-returns-6 t c =
     let a = c .before .before .before .before .before in
-    let law = deep-law (c .before .before .before .before .before .before .before .before .before .before .before .before .before .before .args .pattern .now) (a .next-slash .result) (labels-cut t a) (sym (c .before .before .before .is-deep .ensures) ∙ c .before .before .if6 .taken) in
-    subst (λ (g : List (List ℕ) → Bool). Says g (labelsOf (c .before .before .before .before .before .before .before .before .before .before .before .before .before .before .args .path .now)) (c .descend .result)) (sym law) (c .descend .ensures)
+    let law = deep-law (c .before .before .before .before .before .before .before .before .before .before .before .before .before .args .pattern .now) (a .next-slash .result) (labels-cut t a) (sym (c .before .before .before .is-deep .ensures) ∙ c .before .before .if6 .taken) in
+    subst (λ (g : List (List ℕ) → Bool). Says g (labelsOf (c .before .before .before .before .before .before .before .before .before .before .before .before .before .args .path .now)) (c .descend .result)) (sym law) (c .descend .ensures)
 
 labels-returns-7 : (t : ℕ) → labels-lts.Need-returns-7 (labels-calls t) (labels-at t) labels.Post
 labels-returns-7 t c =
     let a = c .before .before .before .before in
-    rw (one-law (c .before .before .before .before .before .before .before .before .before .before .before .before .before .args .pattern .now) (a .next-slash .result) (labels-cut t a) (sym (c .before .before .is-deep .ensures) ∙ c .before .if6 .left), no-labels (c .before .before .before .before .before .before .before .before .before .before .before .before .before .args .path .now) (c .if7 .taken))
+    rw (one-law (c .before .before .before .before .before .before .before .before .before .before .before .before .args .pattern .now) (a .next-slash .result) (labels-cut t a) (sym (c .before .before .is-deep .ensures) ∙ c .before .if6 .left), no-labels (c .before .before .before .before .before .before .before .before .before .before .before .before .args .path .now) (c .if7 .taken))
 
 labels-returns-8 : (t : ℕ) → labels-lts.Need-returns-8 (labels-calls t) (labels-at t) labels.Post
 labels-returns-8 t c =
-    let p = c .before .before .before .before .before .before .before .before .before .before .before .before .before .before .before .before .before .before .args .pattern .now in
-    let s = c .before .before .before .before .before .before .before .before .before .before .before .before .before .before .before .before .before .before .args .path .now in
+    let p = c .before .before .before .before .before .before .before .before .before .before .before .before .before .before .before .before .before .args .pattern .now in
+    let s = c .before .before .before .before .before .before .before .before .before .before .before .before .before .before .before .before .before .args .path .now in
     let a = c .before .before .before .before .before .before .before .before .before in
     let b = c .before .before .before .before in
     let k = fitLabels (labelsOf (back p (a .next-slash .result))) in
@@ -184,10 +184,10 @@ labels-returns-8 t c =
     (first-not (fitsLabel (front p (a .next-slash .result))) k s (b .next-slash2 .result) (labels-cut2 t b) (sym (c .before .label-fits .ensures) ∙ not-true _ (c .if8 .taken)))
 
 -- the first label fits: what is said of the others is so of all
-labels-says : (t : ℕ) (c : labels-lts.After-labels2 (labels-calls t) (labels-at t) labels.Post) → Says (fitLabels (labelsOf (c .before .before .before .before .before .before .before .before .before .before .before .before .before .before .before .before .before .before .before .before .before .args .pattern .now))) (labelsOf (c .before .before .before .before .before .before .before .before .before .before .before .before .before .before .before .before .before .before .before .before .before .args .path .now)) (c .labels2 .result)
+labels-says : (t : ℕ) (c : labels-lts.After-labels2 (labels-calls t) (labels-at t) labels.Post) → Says (fitLabels (labelsOf (c .before .before .before .before .before .before .before .before .before .before .before .before .before .before .before .before .before .before .before .before .args .pattern .now))) (labelsOf (c .before .before .before .before .before .before .before .before .before .before .before .before .before .before .before .before .before .before .before .before .args .path .now)) (c .labels2 .result)
 labels-says t c =
-    let p = c .before .before .before .before .before .before .before .before .before .before .before .before .before .before .before .before .before .before .before .before .before .args .pattern .now in
-    let s = c .before .before .before .before .before .before .before .before .before .before .before .before .before .before .before .before .before .before .before .before .before .args .path .now in
+    let p = c .before .before .before .before .before .before .before .before .before .before .before .before .before .before .before .before .before .before .before .before .args .pattern .now in
+    let s = c .before .before .before .before .before .before .before .before .before .before .before .before .before .before .before .before .before .before .before .before .args .path .now in
     let a = c .before .before .before .before .before .before .before .before .before .before .before .before in
     let b = c .before .before .before .before .before .before .before in
     let k = fitLabels (labelsOf (back p (a .next-slash .result))) in
@@ -196,13 +196,13 @@ labels-says t c =
     (first-cut (fitsLabel (front p (a .next-slash .result))) k s (b .next-slash2 .result) (c .labels2 .result) (labels-cut2 t b) (sym (c .before .before .before .before .label-fits .ensures) ∙ not-false _ (c .before .before .before .if8 .left)) (c .labels2 .ensures))
 
 labels-returns-9 : (t : ℕ) → labels-lts.Need-returns-9 (labels-calls t) (labels-at t) labels.Post
-labels-returns-9 t c = subst (Says (fitLabels (labelsOf (c .before .before .before .before .before .before .before .before .before .before .before .before .before .before .before .before .before .before .before .before .before .before .before .args .pattern .now))) (labelsOf (c .before .before .before .before .before .before .before .before .before .before .before .before .before .before .before .before .before .before .before .before .before .before .before .args .path .now))) (c .enum-told .given .1) (labels-says t (c .before .before))
+labels-returns-9 t c = subst (Says (fitLabels (labelsOf (c .before .before .before .before .before .before .before .before .before .before .before .before .before .before .before .before .before .before .before .before .before .before .args .pattern .now))) (labelsOf (c .before .before .before .before .before .before .before .before .before .before .before .before .before .before .before .before .before .before .before .before .before .before .args .path .now))) (c .enum-told .given .1) (labels-says t (c .before .before))
 
 labels-returns-10 : (t : ℕ) → labels-lts.Need-returns-10 (labels-calls t) (labels-at t) labels.Post
-labels-returns-10 t c = subst (Says (fitLabels (labelsOf (c .before .before .before .before .before .before .before .before .before .before .before .before .before .before .before .before .before .before .before .before .before .before .before .args .pattern .now))) (labelsOf (c .before .before .before .before .before .before .before .before .before .before .before .before .before .before .before .before .before .before .before .before .before .before .before .args .path .now))) (c .enum-told2 .given .1) (labels-says t (c .before .before))
+labels-returns-10 t c = subst (Says (fitLabels (labelsOf (c .before .before .before .before .before .before .before .before .before .before .before .before .before .before .before .before .before .before .before .before .before .before .args .pattern .now))) (labelsOf (c .before .before .before .before .before .before .before .before .before .before .before .before .before .before .before .before .before .before .before .before .before .before .args .path .now))) (c .enum-told2 .given .1) (labels-says t (c .before .before))
 
 labels-returns-11 : (t : ℕ) → labels-lts.Need-returns-11 (labels-calls t) (labels-at t) labels.Post
-labels-returns-11 t c = subst (Says (fitLabels (labelsOf (c .before .before .before .before .before .before .before .before .before .before .before .before .before .before .before .before .before .before .before .before .before .before .before .args .pattern .now))) (labelsOf (c .before .before .before .before .before .before .before .before .before .before .before .before .before .before .before .before .before .before .before .before .before .before .before .args .path .now))) (c .enum-told3 .given .1) (labels-says t (c .before .before))
+labels-returns-11 t c = subst (Says (fitLabels (labelsOf (c .before .before .before .before .before .before .before .before .before .before .before .before .before .before .before .before .before .before .before .before .before .before .args .pattern .now))) (labelsOf (c .before .before .before .before .before .before .before .before .before .before .before .before .before .before .before .before .before .before .before .before .before .before .args .path .now))) (c .enum-told3 .given .1) (labels-says t (c .before .before))
 
 pub +descend+labels-spec : {M : Type 1} → statement M
 +descend+labels-spec = close μ-descend μ-labels (λ t. descend-lts.spec (descend-calls t)
