@@ -14,7 +14,7 @@ ghost use Rattle.buffer.specs.Lists.{all};
 ghost use Rattle.glob.specs.Inner.{Begun};
 ghost use Rattle.matcher.specs.Bytes.{Marks};
 ghost use Rattle.matcher.specs.Labels.{labelsOf};
-ghost use Rattle.matcher.specs.Form.{patternLabel, formedPath, formedPattern, tooMany, pathForm, patternForm, isFine, pathNumber, patternNumber};
+ghost use Rattle.matcher.specs.Form.{patternLabel, formedPath, formedPattern, pathForm, patternForm, isFine, pathNumber, patternNumber};
 ghost use Rattle.matcher.specs.Reach.{beginsPath};
 
 // How a path or a pattern is formed. `TooLong`: over 200 bytes, or a pattern with over 32 `/`.
@@ -141,28 +141,25 @@ fn is_pattern(pattern: &[u8]) -> bool
     false
 }
 
-// Has a pattern more labels than it may? One of no more bytes than that is not counted: each label has its `/`.
-fn has_too_many(pattern: &[u8]) -> bool
-    ensures { λ r. ⌜ r ≡ tooMany (now (pattern .entry)) ⌝ }
-{
-    if pattern.len() <= PATTERN_LABEL_LIMIT {
-        return false;
-    }
-    PATTERN_LABEL_LIMIT < label_count(pattern)
-}
-
-// The form of a pattern: length and number of labels first, then its labels.
+// The form of a pattern: too long, or of too many labels, comes before malformed. A label takes its `/` and at least one byte, so a formed pattern of few
+// bytes is not counted.
 pub fn check_pattern(pattern: &[u8]) -> Form
     ensures { λ r. ⌜ r ≡ patternForm (now (pattern .entry)) ⌝ }
 {
     if PATH_LIMIT < pattern.len() {
         return Form::TooLong;
     }
-    if has_too_many(pattern) {
+    let formed = is_pattern(pattern);
+    if formed {
+        if pattern.len() / 2 <= PATTERN_LABEL_LIMIT {
+            return Form::Fine;
+        }
+    }
+    if PATTERN_LABEL_LIMIT < label_count(pattern) {
         return Form::TooLong;
     }
-    if is_pattern(pattern) {
-        return Form::Fine;
+    if formed {
+        return Form::Fine; // of many bytes
     }
     Form::Malformed
 }

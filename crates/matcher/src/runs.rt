@@ -52,7 +52,8 @@ fn label_end(marks: &[u8; 256], s: &[u8], i: usize) -> usize
     i + 4
 }
 
-// Are these label bytes and marks, of which no two stand together? A mark is no label byte.
+// Are these label bytes and marks, of which no two stand together? A mark is no label byte. A turn takes up to four label bytes and the byte behind them; the last
+// few go one by one.
 pub(crate) fn are_apart(marks: &[u8; 256], s: &[u8], mark: u8) -> bool
     requires { ⌜ Marks (now marks) × (labelByte mark ≡ false) ⌝ }
     ensures { λ r. ⌜ r ≡ apart mark (now (s .entry)) ⌝ }
