@@ -2,7 +2,7 @@
 use glob::split::byte_at;
 ghost use mathlib.Core.Path.{_≡_};
 ghost use mathlib.Core.Bool.{false, not, cond};
-ghost use Prim.Native.Nat.{_+_, _<_, _≤_};
+ghost use Prim.Native.Nat.{_+_, _-_, _<_};
 ghost use lib.Dec.{eqb};
 ghost use lib.ListN.{length, getD};
 ghost use Rattle.glob.specs.Inner.{Skipped};
@@ -32,11 +32,14 @@ fn may_stand(marks: &[u8; 256], s: &[u8], i: usize, mark: u8) -> bool
     false
 }
 
-// Where do the label bytes from i on end? At most four are passed over.
+// Where do the label bytes from i on end? At most four are passed over, and none where fewer are left.
 fn label_end(marks: &[u8; 256], s: &[u8], i: usize) -> usize
-    requires { ⌜ Marks (now marks) × (i + 4 ≤ length (now s)) ⌝ }
-    ensures { λ r. ⌜ Skipped (LabelAt (now (s .entry))) (i + 3) i r ⌝ }
+    requires { ⌜ Marks (now marks) × (i < length (now s)) ⌝ }
+    ensures { λ r. ⌜ Skipped (LabelAt (now (s .entry))) (length (now (s .entry)) - 1) i r × (r < length (now (s .entry))) ⌝ }
 {
+    if s.len() <= i + 4 {
+        return i; // a few are left
+    }
     if !marked(marks, s[i]) {
         return i;
     }
@@ -52,25 +55,18 @@ fn label_end(marks: &[u8; 256], s: &[u8], i: usize) -> usize
     i + 4
 }
 
-// Are these label bytes and marks, of which no two stand together? A mark is no label byte. A turn takes up to four label bytes and the byte behind them; the last
-// few go one by one.
+// Are these label bytes and marks, of which no two stand together? A mark is no label byte. A turn takes up to four label bytes and the byte behind them.
 pub(crate) fn are_apart(marks: &[u8; 256], s: &[u8], mark: u8) -> bool
     requires { ⌜ Marks (now marks) × (labelByte mark ≡ false) ⌝ }
     ensures { λ r. ⌜ r ≡ apart mark (now (s .entry)) ⌝ }
 {
     let mut i = 0;
-    while i + 4 < s.len() {
+    while i < s.len() {
         let end = label_end(marks, s, i);
         if !may_stand(marks, s, end, mark) {
             return false;
         }
         i = end + 1;
-    }
-    while i < s.len() {
-        if !may_stand(marks, s, i, mark) {
-            return false;
-        }
-        i += 1;
     }
     true
 }

@@ -1,7 +1,7 @@
--- `matcher::runs::are_apart` meets its contract. The invariant of both loops: what holds from here on is what holds of the whole.
+-- `matcher::runs::are_apart` meets its contract. The invariant: what holds from here on is what holds of the whole.
 -- Assumes nothing.
 use mathlib.Core.Path.{_≡_, sym, _∙_}
-use Prim.Native.Nat.{_+_, _-_, _≤_}
+use Prim.Native.Nat.{_-_, _≤_}
 use native.Mathlib.Omega.{arith}
 use lib.ListN.{length, drop}
 use borrow.Author.Tests.{not-true, not-false}
@@ -21,52 +21,34 @@ Inv-loop marks s mark i₀ i = (i ≤ length s) × (apart mark s ≡ apart mark 
 abbrev μ-loop : tie.MeasureT-loop
 μ-loop marks s mark i₀ i = length s - i
 
-abbrev Inv-loop2 : tie.InvT-loop2
-Inv-loop2 = Inv-loop
-
-abbrev μ-loop2 : tie.MeasureT-loop2
-μ-loop2 = μ-loop
-
 abbrev calls : lts.Claims
 calls = (label-end-reads.Asked, label-end-reads.Learnt, may-stand-reads.Asked, may-stand-reads.Learnt)
 
 -- what holds behind the label bytes passed over is what holds of the whole
-past : (c : lts.After-label-end calls reads.Pre reads.Post Inv-loop μ-loop Inv-loop2 μ-loop2)
+past : (c : lts.After-label-end calls reads.Pre reads.Post Inv-loop μ-loop)
     → let a = c .before .before .before .before .args in apart (a .mark) (a .s .now) ≡ apart (a .mark) (drop (c .label-end .result) (a .s .now))
 past c =
     let h = c .before .before in
     let e = h .before .before in
-    h .loop .inv .1 ∙ apart-past (e .args .mark) (e .args .s .now) (h .loop .i + 3) (h .loop .i) (c .label-end .result) (e .pre .1) (omega (arith, c .before .loop-test .taken)) (c .label-end .ensures)
+    h .loop .inv .1 ∙ apart-past (e .args .mark) (e .args .s .now) (length (e .args .s .now) - 1) (h .loop .i) (c .label-end .result) (e .pre .1) (omega (arith, c .before .loop-test .taken)) (c .label-end .ensures .0)
 
-returns : tie.Need-returns Inv-loop μ-loop Inv-loop2 μ-loop2
+returns : tie.Need-returns Inv-loop μ-loop
 returns c =
     let b = c .before .before in
     let a = b .before .before .before .before .args in
     sym (past b ∙ apart-stop (a .mark) (a .s .now) (b .label-end .result) (omega arith) (sym (c .before .may-stand .ensures) ∙ not-true _ (c .if1 .taken)))
 
-loop-again : tie.Need-loop-again Inv-loop μ-loop Inv-loop2 μ-loop2
+loop-again : tie.Need-loop-again Inv-loop μ-loop
 loop-again c =
     let b = c .before .before in
     let a = b .before .before .before .before .args in
     (search needs, past b ∙ apart-on (a .mark) (a .s .now) (b .label-end .result) (omega arith) (sym (c .before .may-stand .ensures) ∙ not-false _ (c .if1 .left)))
 
-returns-2 : tie.Need-returns-2 Inv-loop μ-loop Inv-loop2 μ-loop2
+returns-2 : tie.Need-returns-2 Inv-loop μ-loop
 returns-2 c =
-    let h = c .before .before .before in
-    let a = h .before .before .before .before .args in
-    sym (h .loop2 .inv .1 ∙ apart-stop (a .mark) (a .s .now) (h .loop2 .i) (c .before .before .loop2-test .taken) (sym (c .before .may-stand2 .ensures) ∙ not-true _ (c .if2 .taken)))
-
-loop2-again : tie.Need-loop2-again Inv-loop μ-loop Inv-loop2 μ-loop2
-loop2-again c =
-    let h = c .before .before .before in
-    let a = h .before .before .before .before .args in
-    (search needs, h .loop2 .inv .1 ∙ apart-on (a .mark) (a .s .now) (h .loop2 .i) (c .before .before .loop2-test .taken) (sym (c .before .may-stand2 .ensures) ∙ not-false _ (c .if2 .left)))
-
-returns-3 : tie.Need-returns-3 Inv-loop μ-loop Inv-loop2 μ-loop2
-returns-3 c =
     let h = c .before in
-    let a = h .before .before .before .before .args in
-    sym (h .loop2 .inv .1 ∙ apart-end (a .mark) (a .s .now) (h .loop2 .i) (c .loop2-test .left))
+    let a = h .before .before .args in
+    sym (h .loop .inv .1 ∙ apart-end (a .mark) (a .s .now) (h .loop .i) (c .loop-test .left))
 
 pub are-apart-spec : {M : Type 1} → statement M
 are-apart-spec =
@@ -74,9 +56,6 @@ are-apart-spec =
     (tie.spec
     Inv-loop
     μ-loop
-    Inv-loop2
-    μ-loop2
-    (λ c. search needs)
     (λ c. search needs)
     (λ c κs. search needs)
     (λ c κs. search needs)
@@ -84,10 +63,4 @@ are-apart-spec =
     (λ c. search needs)
     (λ c. search needs)
     loop-again
-    (λ c. search needs)
-    (λ c κs. search needs)
-    returns-2
-    (λ c. search needs)
-    (λ c. search needs)
-    loop2-again
-    returns-3)
+    returns-2)
