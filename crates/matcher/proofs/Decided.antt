@@ -57,6 +57,14 @@ module _ (pattern known : List ℕ) (P : isFine (patternForm pattern) ≡ true) 
         fits = subst (λ (l : List (List ℕ)). fitLabels (labelsOf pattern) l ≡ true) (sym (labels-of-join (g .labels) (g .formed))) (g .fits);
       }
 
+-- some path fits a formed pattern
+pub some-fits : (pattern : List ℕ) → isFine (patternForm pattern) ≡ true → Continued pattern []
+some-fits pattern P = goes-on-open pattern [] P refl (go (labelsOf pattern) (pattern-some pattern (fine-pattern pattern P)))
+  where
+    go : (ps : List (List ℕ)) → none ps ≡ false → beginsLabels ps [] ≡ true
+    go [] h = not-both refl h
+    go (p ∷ ps) h = refl
+
 -- bytes with the end byte last, and others
 ended-last : (known : List ℕ) → ended known ≡ true → (length known ≡ 0 → ⊥) × (lastByte known ≡ endByte)
 ended-last [] e = not-both e refl

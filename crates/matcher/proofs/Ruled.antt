@@ -1,24 +1,29 @@
 -- Bytes that differ from those with which every path that fits begins are a mismatch. Assumes nothing.
-use mathlib.Core.Path.{_≡_, refl, sym, ap, _∙_}
+use mathlib.Core.Path.{_≡_, refl, sym, ap, ap₂, _∙_}
 use mathlib.Core.List.{List, [], _∷_, _++_, append-assoc}
-use mathlib.Core.Bool.{Bool, true, false}
+use mathlib.Core.Bool.{Bool, true, false, not}
 use Prim.Native.Nat.{ℕ, zero, suc, _+_, _-_, _≤_, _<_}
 use native.Mathlib.Omega.{arith}
-use lib.ListN.{length, take, drop, getD, length-take}
-use lib.Seq.{length-take-le, take-append-le, take-append-add, take-add, drop-at, drop-cons}
+use lib.ListN.{length, take, drop, getD, length-take, length-append, take-append-drop}
+use lib.Seq.{length-take-le, take-append-le, take-append-add, take-add, take-take, drop-at, drop-cons}
 use lib.Dec.{eqb}
 use borrow.Author.Tests.{eq-eqb, ne-eqb, eqb-true}
 use Rattle.buffer.specs.Lists.{all}
-use Rattle.buffer.proofs.Tests.{not-both, and-left}
+use Rattle.buffer.proofs.Tests.{not-both, and-left, or-left-false, or-right-false}
 use Rattle.glob.specs.Prefix.{LiteralPrefix, differs}
 use Rattle.matcher.specs.Bytes.{slash, endByte}
 use Rattle.matcher.specs.Labels.{labelsOf}
-use Rattle.matcher.specs.Form.{pathLabel}
+use Rattle.matcher.specs.Form.{pathLabel, formedPath, patternForm, isFine}
 use Rattle.matcher.specs.Continued.{Continued, Told}
 use Rattle.matcher.specs.Reach.{reachOf, RuledOut, byteLimit, LastByte}
 use Rattle.matcher.specs.declared.reach.Answer.{Answer}
 use Rattle.matcher.specs.declared.reach.Answer.the-variants.{Match, Mismatch, Incomplete}
-use Rattle.matcher.proofs.Decided.{told}
+use Rattle.matcher.proofs.Apart.{lastByte}
+use Rattle.matcher.proofs.Prefixes.{last-of, closed-path}
+use Rattle.matcher.proofs.Decided.{told, some-fits}
+
+path-slash : (path : List ℕ) → formedPath path ≡ true → getD path 0 0 ≡ slash
+path-slash path e = eqb-true (getD path 0 0) slash (and-left (eqb (getD path 0 0) slash) (all pathLabel (labelsOf path)) e)
 
 -- what begins with all of s does not differ from s
 alike : (m : ℕ) (s more : List ℕ) → differs (take m (s ++ more)) s ≡ false
@@ -37,7 +42,7 @@ module _ (pattern known s : List ℕ) (n : ℕ) (h : LiteralPrefix pattern n) (l
       let path = c .path in
       let p = length known in
       let k = n - p in
-      let same : take n path ≡ take n pattern = h .begins path (eqb-true (getD path 0 0) slash (and-left (eqb (getD path 0 0) slash) (all pathLabel (labelsOf path)) (c .is-path))) (c .fits) in
+      let same : take n path ≡ take n pattern = h .begins path (path-slash path (c .is-path)) (c .fits) in
       let size : length (take n path) ≡ n = ap length same ∙ length-take-le n pattern (h .in-pattern) in
       let long : n ≤ length path = let m = length-take n path in omega arith in
       let seam : p + k ≡ n = omega arith in
@@ -79,3 +84,56 @@ by-last pattern literal p l = record {
 
 pub any-byte : (pattern : List ℕ) (literal p : ℕ) → LastByte pattern literal p byteLimit
 any-byte pattern literal p = record { mismatch = λ h b. absurd (omega arith) }
+
+-- ---- no more bytes than every path that fits begins with
+
+is-true : (b : Bool) → not b ≡ false → b ≡ true
+is-true true e = refl
+is-true false e = not-both refl e
+
+same-bytes : (l s : List ℕ) → length s ≤ length l → differs l s ≡ false → s ≡ take (length s) l
+same-bytes l [] h e = refl
+same-bytes [] (x ∷ s) h e = absurd (omega arith)
+same-bytes (c ∷ l) (x ∷ s) h e =
+    let n = or-left-false (not (eqb c x)) (differs l s) e in
+    ap₂ _∷_ (sym (eqb-true c x (is-true (eqb c x) n))) (same-bytes l s (omega arith) (or-right-false (not (eqb c x)) (differs l s) e))
+
+module _ (pattern : List ℕ) (literal : ℕ) (P : isFine (patternForm pattern) ≡ true) (h : LiteralPrefix pattern literal) where
+  -- some path fits, and begins with them
+  literal-path : (n : ℕ) → n ≤ literal → (C : Continued pattern (take n pattern)) × (literal ≤ length (C .path))
+  literal-path n l =
+      let C = some-fits pattern P in
+      let path = C .path in
+      let same : take literal path ≡ take literal pattern = h .begins path (path-slash path (C .is-path)) (C .fits) in
+      let size : length (take literal path) ≡ literal = ap length same ∙ length-take-le literal pattern (h .in-pattern) in
+      let first : take n path ≡ take n pattern = sym (take-take n literal path l) ∙ ap (take n) same ∙ take-take n literal pattern l in (
+        record {
+          is-pattern = P;
+          path = path;
+          is-path = C .is-path;
+          more = drop n path ++ (endByte ∷ []);
+          goes-on =
+              sym (append-assoc (take n pattern) (drop n path) (endByte ∷ []))
+              ∙ ap (λ (s : List ℕ). s ++ (endByte ∷ [])) (ap (λ (s : List ℕ). s ++ drop n path) (sym first) ∙ take-append-drop n path);
+          fits = C .fits;
+        },
+        let m = length-take literal path in omega arith,
+      )
+
+  pub literal-open : (n : ℕ) → n ≤ literal → reachOf pattern (take n pattern) ≡ Incomplete
+  literal-open n l = go (reachOf pattern (take n pattern)) (told pattern (take n pattern))
+    where
+      go : (r : Answer) → Told pattern (take n pattern) r → r ≡ Incomplete
+      go Incomplete t = refl
+      go Mismatch t = absurd (t (literal-path n l .0))
+      go Match t =
+          let D = literal-path n l .0 in
+          let long = ap length (t .1) ∙ length-append (t .0 .path) (endByte ∷ []) in
+          let w = closed-path (take n pattern) (D .path) (D .more) (D .is-path) (D .goes-on) (λ z. absurd (omega arith)) (ap lastByte (t .1) ∙ last-of (t .0 .path) endByte) in
+          absurd (omega (arith, ap length w ∙ length-append (D .path) (endByte ∷ []), length-take-le n pattern (omega (arith, h .in-pattern)), literal-path n l .1))
+
+  -- the answer by comparing
+  pub compared : (known : List ℕ) → length known ≤ literal → differs (take literal pattern) known ≡ false → Incomplete ≡ reachOf pattern known
+  compared known l e =
+      let is = same-bytes (take literal pattern) known (omega (arith, length-take-le literal pattern (h .in-pattern))) e ∙ take-take (length known) literal pattern l in
+      sym (ap (reachOf pattern) is ∙ literal-open (length known) l)

@@ -11,7 +11,7 @@ ghost use mathlib.Core.Path.{_≡_};
 ghost use mathlib.Core.Bool.{true};
 ghost use Rattle.matcher.specs.Form.{patternForm, isFine};
 ghost use Rattle.matcher.specs.Continued.{ended};
-ghost use Rattle.matcher.specs.Reach.{reachWhole, reachOpen, reachFormed, Reached, RuledOut, LastByte};
+ghost use Rattle.matcher.specs.Reach.{reachWhole, reachOpen, reachFormed, reachOf, LiteralPrefix, Reached, RuledOut, LastByte};
 
 // How many bytes of a pattern does every path that fits it begin with?
 pub use glob::prefix::literal_prefix;
@@ -70,6 +70,23 @@ pub fn reach_formed(pattern: &[u8], known: &[u8]) -> Answer
         return reach_whole(pattern, &known[0..known.len() - 1]);
     }
     reach_open(pattern, known)
+}
+
+// The same for a search, which knows `literal` bytes of the pattern such that every path that fits begins with them: bytes that are no more are only
+// compared with these.
+pub fn reach_from(pattern: &[u8], literal: usize, known: &[u8]) -> Answer
+    ensures { λ r.
+        ⌜ (isFine (patternForm (now (pattern .entry))) ≡ true → LiteralPrefix (now (pattern .entry)) literal → r ≡ reachOf (now (pattern .entry)) (now (known .entry))) ⌝ }
+{
+    if known.len() <= literal {
+        if literal <= pattern.len() {
+            if differs(&pattern[0..literal], known) {
+                return Answer::Mismatch; // no path that fits begins so
+            }
+            return Answer::Incomplete; // any does
+        }
+    }
+    reach_formed(pattern, known)
 }
 
 // Can a path whose first bytes, the end byte possibly among them, are `known` match the pattern? A pattern that is not

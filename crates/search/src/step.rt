@@ -13,7 +13,7 @@ use gather::key::enter;
 use matcher::reach::Answer;
 use matcher::reach::BYTE_LIMIT;
 use matcher::reach::last_byte;
-use matcher::reach::reach_formed;
+use matcher::reach::reach_from;
 use matcher::reach::ruled_out;
 use rows::sizes::PATH_AT;
 use rows::sizes::VALUE_SIZE;
@@ -128,7 +128,7 @@ pub(crate) fn ask_once(
     if kind == VALUE_KIND {
         let bytes = branches(low, high, &key[0..v]);
         let end = PATH_AT + p;
-        let other = reach_formed(pattern, &key[PATH_AT..end]);
+        let other = reach_from(pattern, literal, &key[PATH_AT..end]);
         return Common {
             from: bytes.from,
             to: bytes.to,
@@ -178,8 +178,8 @@ fn value_more(low: u64, high: u64, known: &[u8], from: u64, to: u64, s: &[u8]) -
 }
 
 // The answer for the path with the bytes s added, which are written behind those known.
-fn path_with(pattern: &[u8], key: &mut [u8], p: usize, s: &[u8]) -> Answer
-    requires { ⌜ isFine (patternForm (now pattern)) ≡ true ⌝ }
+fn path_with(pattern: &[u8], literal: usize, key: &mut [u8], p: usize, s: &[u8]) -> Answer
+    requires { ⌜ (isFine (patternForm (now pattern)) ≡ true) × LiteralPrefix (now pattern) literal ⌝ }
     requires { ⌜ (length (now key) ≡ slotSize) × (p + length (now s) ≤ endedLimit + 1) ⌝ }
     ensures { λ r. ⌜ r ≡ reachOf (now (pattern .entry)) (region (now (key .entry)) pathAt p ++ now (s .entry)) ⌝ }
     ensures { λ _. ⌜ now (key .exit) ≡ splice (now (key .entry)) (pathAt + p) (now (s .entry)) ⌝ }
@@ -187,7 +187,7 @@ fn path_with(pattern: &[u8], key: &mut [u8], p: usize, s: &[u8]) -> Answer
     let at = PATH_AT + p;
     copy_from(key, at, s);
     let end = at + s.len();
-    reach_formed(pattern, &key[PATH_AT..end])
+    reach_from(pattern, literal, &key[PATH_AT..end])
 }
 
 // The same, but most paths differ from the pattern where that has no wild byte yet: they are ruled out, and nothing is written.
@@ -200,7 +200,7 @@ fn path_answer(pattern: &[u8], literal: usize, key: &mut [u8], p: usize, s: &[u8
     if ruled_out(pattern, literal, p, s) {
         return Answer::Mismatch;
     }
-    path_with(pattern, key, p, s)
+    path_with(pattern, literal, key, p, s)
 }
 
 // The answer of both dimensions, where the value is answered and the path has the bytes s more: it is asked where the value is no mismatch.

@@ -36,7 +36,7 @@ returns-2 c =
     record {
       bytes = λ k short. spans short;
       last = λ b. value-last (a .pattern .now) (a .low) (a .high) (a .v) (a .p) _ (a .key .now) (pre .1 .0) _ (pre .1 .1) spans (a .kind) one;
-      other = λ z. rw (eq-eqb (a .kind) 1 one) (c .reach-formed .ensures .1 (pre .0 .0) .is ∙ ap (λ (n : ℕ). reachOf (a .pattern .now) (take n (drop pathAt (a .key .now)))) path);
+      other = λ z. rw (eq-eqb (a .kind) 1 one) (c .reach-from .ensures (pre .0 .0) (pre .0 .1) ∙ ap (λ (n : ℕ). reachOf (a .pattern .now) (take n (drop pathAt (a .key .now)))) path);
     }
 
 returns-3 : tie.Need-returns-3

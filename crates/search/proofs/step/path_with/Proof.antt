@@ -11,7 +11,7 @@ returns c =
     let a = c .before .before .before .before .before .before .before .before .before .before .args in
     let pre = c .before .before .before .before .before .before .before .before .before .before .pre in
     let w = c .before .before .before .before .before .copy-from .ensures in
-    (c .reach-formed .ensures .1 (pre .0) .is ∙ ap (reachOf (a .pattern .now)) (path-more (a .key .now) _ (a .s .now) (a .p) (pre .1 .0) (pre .1 .1) w), w)
+    (c .reach-from .ensures (pre .0 .0) (pre .0 .1) ∙ ap (reachOf (a .pattern .now)) (path-more (a .key .now) _ (a .s .now) (a .p) (pre .1 .0) (pre .1 .1) w), w)
 
 pub path-with-spec : {M : Type 1} → statement M
 path-with-spec =
