@@ -1,5 +1,6 @@
-//! A reader of a store's bytes without any check: what a search of these tries takes at least. It believes every length, leaves branches out by
-//! the value and by the pattern's bytes before its first `*`, tests whole paths by the plain matcher of the scan, and does not sort its rows.
+//! A simple reader of a store's bytes without any check, to see what checks and sorting cost. It believes every length, leaves a branch out by its
+//! branching byte alone (against the range, and against the pattern before its first `*`), tests whole paths by the plain matcher of the scan, and
+//! does not sort its rows. No bound: a cleverer one would walk less.
 
 use crate::data::Query;
 use crate::scan::{fits, put_row, ROW};
@@ -88,15 +89,17 @@ impl Reader<'_> {
     }
 }
 
-/// The rows of the tries that begin at these bytes, each a sound one or empty.
-pub fn search<'a>(tries: impl Iterator<Item = &'a [u8]>, query: &Query, answer: &mut [u8]) -> usize {
+/// The rows of the tries that begin at these bytes.
+///
+/// # Safety
+/// Each trie is sound or empty, as the index leaves it, and the answer has room for every row.
+pub unsafe fn search<'a>(tries: impl Iterator<Item = &'a [u8]>, query: &Query, answer: &mut [u8]) -> usize {
     let mut reader = Reader { query, literal: literal(&query.pattern), path: [0; LONGEST], answer, rows: 0 };
     for trie in tries {
         let body = u32::from_be_bytes(trie[3..HEAD].try_into().expect("four bytes")) as usize;
         let end = if body == 0 { 0 } else { HEAD + trie[1] as usize + trie[2] as usize + body };
         let bytes = &trie[..end];
-        // A store that only the index has written: its tries are sound.
-        unsafe { reader.walk(bytes.as_ptr(), bytes.as_ptr_range().end, 256, 0, 0, 0) }
+        reader.walk(bytes.as_ptr(), bytes.as_ptr_range().end, 256, 0, 0, 0);
     }
     reader.rows
 }

@@ -193,14 +193,25 @@ fn time_runs<const N: usize>(runs: &mut [Run; N], answer: &mut [u8], rounds: usi
     best
 }
 
-/// Seconds of the reader without checks and of the scan, by turns.
+/// The rows in any one sequence, to compare answers that come in different ones.
+fn sorted_rows(rows: &[u8]) -> Vec<&[u8]> {
+    let mut rows: Vec<&[u8]> = rows.chunks(ROW).collect();
+    rows.sort();
+    rows
+}
+
+/// Seconds of the reader without checks and of the scan, by turns, once both have given the same rows.
 fn time_bare(tables: &Tables, query: &Query, answer: &mut [u8], rounds: usize) -> [f64; 2] {
     let mut runs: [Run; 2] = [
-        Box::new(|answer| bare::search(tables.store.tries(), query, answer)),
+        // Only the index has written the store, and there is room for every entry.
+        Box::new(|answer| unsafe { bare::search(tables.store.tries(), query, answer) }),
         Box::new(|answer| scan::search(&tables.sorted, query, answer)),
     ];
-    let [rows, expected] = [0, 1].map(|at: usize| runs[at](answer));
-    assert_eq!(rows, expected, "rows of the reader without checks, {}", query.name);
+    let mut expected = vec![0x55; answer.len()];
+    let rows = runs[1](&mut expected);
+    let count = runs[0](answer);
+    let same = sorted_rows(&expected[..rows * ROW]) == sorted_rows(&answer[..count * ROW]);
+    assert!(same, "rows of the reader without checks, {}", query.name);
     time_runs(&mut runs, answer, rounds)
 }
 

@@ -56,7 +56,7 @@ pub fn fits(pattern: &[u8], path: &[u8]) -> bool {
     label_fits(wanted, label) && fits(rest, path_rest)
 }
 
-/// Tests each entry, the value first; the number of rows. Inlined, since a call costs it a third of its speed.
+/// Tests each entry, the value first; the number of rows. Inlined: by a call it takes up to half as long again.
 #[inline(always)]
 pub fn search(sorted: &[Entry], query: &Query, answer: &mut [u8]) -> usize {
     let mut rows = answer.chunks_exact_mut(ROW);
