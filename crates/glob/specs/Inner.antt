@@ -63,7 +63,7 @@ pub record Single (p : List ℕ) : Type 0 where
   pub some : 1 ≤ length p
   pub takes : fitLabels (labelsOf p) ≡ first (fitsLabel (take (length p - 1) (drop 1 p))) none
 
--- p, a pattern, and s begin alike with whole labels up to r, none with a `*`: a trial of what is left of both is a trial of the whole
+-- a trial of what is left of p, a pattern, and of s from r on is a trial of the whole: so it is behind whole labels that both begin with, none with a `*`
 pub record SharedLabels (p s : List ℕ) (r : ℕ) : Type 0 where
   pub in-pattern : r ≤ length p
   pub in-path : r ≤ length s
@@ -71,6 +71,6 @@ pub record SharedLabels (p s : List ℕ) (r : ℕ) : Type 0 where
   pub begun-path : Begun (take (length s - r) (drop r s))
   pub passes : (t : Trial) → Says (fitLabels (labelsOf (take (length p - r) (drop r p)))) (labelsOf (take (length s - r) (drop r s))) t → Says (fitLabels (labelsOf p)) (labelsOf s) t
 
--- up to r they begin alike so; or r is behind the pattern, and s does not fit
+-- a trial may go on from r; or r is behind the pattern, and s does not fit
 abbrev pub AlikeLabels : List ℕ → List ℕ → ℕ → Type 0
 AlikeLabels p s r = (r ≤ length p → SharedLabels p s r) × (length p < r → fitLabels (labelsOf p) (labelsOf s) ≡ false)

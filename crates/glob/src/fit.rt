@@ -141,8 +141,8 @@ fn begin_unlike(pattern: &[u8], path: &[u8]) -> bool
     pattern[1] != path[1]
 }
 
-// How many bytes are the whole labels, none with a `*`, that a pattern and a path begin alike with? More than the pattern has where it does not
-// fit: bytes differ before a `*`, or the pattern has none and the path goes on.
+// How many bytes may be passed over at once, since a pattern and a path begin with the same whole labels there, none with a `*`? 0 where none are, and
+// where the path ends first. More than the pattern has where it does not fit: bytes differ before a `*`, or the pattern has none and the path goes on.
 fn equal_labels(pattern: &[u8], path: &[u8]) -> usize
     requires { ⌜ (length (now pattern) ≡ 0 → ⊥) × Begun (now pattern) × Begun (now path) ⌝ }
     ensures { λ r. ⌜ AlikeLabels (now (pattern .entry)) (now (path .entry)) r ⌝ }
@@ -297,7 +297,7 @@ fn descend(pattern: &[u8], path: &[u8]) -> Trial
     Trial::Never // `**` has taken all labels
 }
 
-// Do the labels of a path fit those of a pattern? For callers that have checked both once, as the search: nothing is checked again. Of any
+// Do the labels of a path fit those of a pattern? For callers that check both themselves, before or after: nothing is checked here. Of any
 // bytes it answers by their labels, which begin at the first `/`. The stack goes as deep as the pattern has bytes.
 pub fn fits_formed(pattern: &[u8], path: &[u8]) -> bool
     ensures { λ r. ⌜ r ≡ fitsPath (now (pattern .entry)) (now (path .entry)) ⌝ }

@@ -56,7 +56,7 @@ pub record RuledOut (pattern : List ℕ) (literal p : ℕ) (s : List ℕ) (r : B
 abbrev pub byteLimit : ℕ
 byteLimit = 256
 
--- what `last_byte` promises: behind p bytes of a path, bytes that begin above the last are a mismatch; it is 256 where any byte may stand
+-- what `last_byte` promises: behind p bytes of a path, bytes that begin above the last are a mismatch; 256 rules out none
 pub record LastByte (pattern : List ℕ) (literal p last : ℕ) : Type 0 where
   pub mismatch : LiteralPrefix pattern literal → last < byteLimit → (known s : List ℕ) → length known ≡ p → 0 < length s → last < getD s 0 0
       → reachOf pattern (known ++ s) ≡ Mismatch

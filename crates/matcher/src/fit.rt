@@ -5,7 +5,7 @@ use crate::form::is_fine;
 ghost use mathlib.Core.Path.{_≡_};
 ghost use Rattle.matcher.specs.Matches.{matches};
 
-// For callers that have checked both once.
+// For callers that check both themselves.
 pub use glob::fit::fits_formed;
 
 // Does a path match a pattern? False where either is not formed. For callers that have checked neither, as the sprayer's filter.

@@ -60,7 +60,7 @@ fn is_ended(known: &[u8]) -> bool
     known[n - 1] == END
 }
 
-// The answer without a check of the pattern: for the search, which checks its pattern once and then asks at every child. For a pattern that
+// The answer without a check of the pattern: for `reach_from`, whose caller checks its pattern once and then asks at every child. For a pattern that
 // is formed it is the answer of `reach`; of any other bytes it answers by their labels, which begin at the first `/`.
 pub fn reach_formed(pattern: &[u8], known: &[u8]) -> Answer
     ensures { λ r. ⌜ r ≡ reachFormed (now (pattern .entry)) (now (known .entry)) ⌝ }
@@ -101,7 +101,7 @@ pub fn reach(pattern: &[u8], known: &[u8]) -> Answer
 }
 
 // Are the bytes s, behind p bytes of a path, a mismatch whatever those are? `literal` bytes of the pattern are such that every path that fits begins with
-// them. A test for a search, cheaper than `reach_formed`, that tells most paths apart: where it says no, nothing is known.
+// them. A test for a search, cheaper than `reach_from`, that tells most paths apart: where it says no, nothing is known.
 pub fn ruled_out(pattern: &[u8], literal: usize, p: usize, s: &[u8]) -> bool
     ensures { λ r. ⌜ RuledOut (now (pattern .entry)) literal p (now (s .entry)) r ⌝ }
 {
@@ -123,7 +123,8 @@ fn wide(b: u8) -> u64
     b as u64
 }
 
-// Behind p bytes of a path, the last byte with which it can go on: as long as every path that fits has the pattern's byte there, it is that, else it may be any.
+// A byte above which none goes on behind p bytes of a path that fits: the pattern's, as long as every such path has it there, else BYTE_LIMIT, which rules
+// out none.
 pub fn last_byte(pattern: &[u8], literal: usize, p: usize) -> u64
     ensures { λ r. ⌜ LastByte (now (pattern .entry)) literal p r ⌝ }
 {

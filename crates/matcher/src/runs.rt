@@ -32,7 +32,7 @@ fn may_stand(marks: &[u8; 256], s: &[u8], i: usize, mark: u8) -> bool
     false
 }
 
-// Where do the label bytes from i on end? At most four are passed over, and none where fewer are left.
+// Passes over label bytes from i on: at most four, and none where no more than four bytes are left.
 fn label_end(marks: &[u8; 256], s: &[u8], i: usize) -> usize
     requires { ⌜ Marks (now marks) × (i < length (now s)) ⌝ }
     ensures { λ r. ⌜ Skipped (LabelAt (now (s .entry))) (length (now (s .entry)) - 1) i r × (r < length (now (s .entry))) ⌝ }

@@ -43,7 +43,8 @@ unfoldable pub takes : Query → Key → Bool
 takes q x = hasSlot x && wants q x
 
 -- What a search asks once for all children of a node of a kind: the branching bytes with which a value in range goes on, where the node branches in the
--- value; the last branching byte with which a child can be entered, in either dimension (256: any); and the answer of the dimension in which it does not branch
+-- value; a branching byte behind which no child can be entered, in either dimension (256 and above rule out none); and, where there is a node, the answer of
+-- the dimension in which it does not branch
 pub record InCommon (q : Query) (kind v p : ℕ) (k : List ℕ) (r : Common) : Type 0 where
   pub bytes : kind ≡ 1 → v < valueSize → Spans q (take v k) 1 (r .from) (r .to)
   pub last : r .to < byteLimit → (s : Strings) → length s ≡ 2 → Starts (over kind) s → r .to < branching (over kind) s

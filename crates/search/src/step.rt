@@ -85,7 +85,7 @@ fn is_match(answer: Answer) -> bool
 }
 
 // What is asked once for all children of a node: which branching bytes of the value lead into the range, from..to, where it branches there; behind
-// which branching byte none can be entered, `to`, in either dimension; and the answer of the dimension in which it does not branch.
+// which branching byte none can be entered, `to`, in either dimension; and the answer of the dimension in which it does not branch (at a root it says nothing).
 pub(crate) struct Common {
     pub(crate) from: u64,
     pub(crate) to: u64,

@@ -1,5 +1,5 @@
 // The walk of a search over tries in bytes. Of the rows found it writes the first `room` into the answer, and counts all: with a room of 0 it only
-// counts. On bytes that are no sound trie's it returns all the same, with at most `depth` nested calls.
+// counts. On bytes that are no trie of ours it returns all the same, with at most `depth` nested calls.
 use crate::step::ROOT;
 use crate::step::ask_once;
 use crate::step::descend;
