@@ -15,7 +15,7 @@ use Rattle.matcher.specs.Bytes.{slash, endByte}
 use Rattle.matcher.specs.Labels.{labelsOf}
 use Rattle.matcher.specs.Form.{pathLabel, formedPath, patternForm, isFine}
 use Rattle.matcher.specs.Continued.{Continued, Told}
-use Rattle.matcher.specs.Reach.{reachOf, RuledOut, byteLimit, LastByte}
+use Rattle.matcher.specs.Reach.{reachOf, RuledOut}
 use Rattle.matcher.specs.declared.reach.Answer.{Answer}
 use Rattle.matcher.specs.declared.reach.Answer.the-variants.{Match, Mismatch, Incomplete}
 use Rattle.matcher.proofs.Apart.{lastByte}
@@ -70,20 +70,15 @@ by-difference pattern literal p s r l e = record {
   mismatch = λ h t known is. ruled-out pattern known s literal h (omega arith) (ap (λ (i : ℕ). differs (take (literal - i) (drop i pattern)) s) is ∙ sym e ∙ t);
 }
 
--- a byte above the pattern's, where every path that fits has the pattern's, is a difference
-differs-first : (l s : List ℕ) (n p : ℕ) → p < length l → 0 < n → 0 < length s → getD l p 0 < getD s 0 0 → differs (take n (drop p l)) s ≡ true
-differs-first l [] n p h m f b = absurd (omega arith)
-differs-first l (c ∷ s) zero p h m f b = absurd (omega arith)
-differs-first l (c ∷ s) (suc n) p h m f b = rw (drop-cons l p 0 h, ne-eqb (getD l p 0) c (λ e. omega arith))
+-- a byte other than the pattern's, where every path that fits has the pattern's, is a difference
+differs-first : (l : List ℕ) (c n p : ℕ) → p < length l → 0 < n → (c ≡ getD l p 0 → ⊥) → differs (take n (drop p l)) (c ∷ []) ≡ true
+differs-first l c zero p h m f = absurd (omega arith)
+differs-first l c (suc n) p h m f = rw (drop-cons l p 0 h, ne-eqb (getD l p 0) c (λ e. f (sym e)))
 
-pub by-last : (pattern : List ℕ) (literal p : ℕ) → p < literal → LastByte pattern literal p (getD pattern p 0)
-by-last pattern literal p l = record {
-  mismatch = λ h b known s is f above.
-      ruled-out pattern known s literal h (omega arith) (differs-first pattern s (literal - length known) (length known) (omega (arith, h .in-pattern)) (omega arith) f (rw is above));
-}
-
-pub any-byte : (pattern : List ℕ) (literal p : ℕ) → LastByte pattern literal p byteLimit
-any-byte pattern literal p = record { mismatch = λ h b. absurd (omega arith) }
+pub other-byte : (pattern known : List ℕ) (literal c : ℕ) → LiteralPrefix pattern literal → length known < literal → (c ≡ getD pattern (length known) 0 → ⊥)
+    → reachOf pattern (known ++ (c ∷ [])) ≡ Mismatch
+other-byte pattern known literal c h l f =
+    ruled-out pattern known (c ∷ []) literal h (omega arith) (differs-first pattern c (literal - length known) (length known) (omega (arith, h .in-pattern)) (omega arith) f)
 
 -- ---- no more bytes than every path that fits begins with
 

@@ -1,6 +1,6 @@
 -- The answer about known bytes as a test that computes. That it says what it means, `Told`, is proved of every pattern and all known
 -- bytes (`proofs/Decided.antt`). Assumes nothing: these are definitions.
-use Prim.Native.Nat.{ℕ, _-_, _<_}
+use Prim.Native.Nat.{ℕ, _-_}
 use mathlib.Core.Path.{_≡_}
 use mathlib.Core.List.{List, _++_}
 use mathlib.Core.Bool.{Bool, true, false, cond, _&&_, _||_}
@@ -51,12 +51,3 @@ pub record Reached (pattern known : List ℕ) (r : Answer) : Type 0 where
 -- what `ruled_out` promises of its answer r: bytes s that differ from those with which every path that fits begins, p bytes behind the first, are a mismatch
 pub record RuledOut (pattern : List ℕ) (literal p : ℕ) (s : List ℕ) (r : Bool) : Type 0 where
   pub mismatch : LiteralPrefix pattern literal → r ≡ true → (known : List ℕ) → length known ≡ p → reachOf pattern (known ++ s) ≡ Mismatch
-
--- no byte is so high
-abbrev pub byteLimit : ℕ
-byteLimit = 256
-
--- what `last_byte` promises: behind p bytes of a path, bytes that begin above the last are a mismatch; 256 rules out none
-pub record LastByte (pattern : List ℕ) (literal p last : ℕ) : Type 0 where
-  pub mismatch : LiteralPrefix pattern literal → last < byteLimit → (known s : List ℕ) → length known ≡ p → 0 < length s → last < getD s 0 0
-      → reachOf pattern (known ++ s) ≡ Mismatch

@@ -11,7 +11,7 @@ ghost use mathlib.Core.Path.{_≡_};
 ghost use mathlib.Core.Bool.{true};
 ghost use Rattle.matcher.specs.Form.{patternForm, isFine};
 ghost use Rattle.matcher.specs.Continued.{ended};
-ghost use Rattle.matcher.specs.Reach.{reachWhole, reachOpen, reachFormed, reachOf, LiteralPrefix, Reached, RuledOut, LastByte};
+ghost use Rattle.matcher.specs.Reach.{reachWhole, reachOpen, reachFormed, reachOf, LiteralPrefix, Reached, RuledOut};
 
 // How many bytes of a pattern does every path that fits it begin with?
 pub use glob::prefix::literal_prefix;
@@ -112,26 +112,4 @@ pub fn ruled_out(pattern: &[u8], literal: usize, p: usize, s: &[u8]) -> bool
         return false;
     }
     differs(&pattern[p..literal], s)
-}
-
-// Above every byte.
-pub const BYTE_LIMIT: u64 = 256;
-
-fn wide(b: u8) -> u64
-    ensures { λ r. ⌜ r ≡ b ⌝ }
-{
-    b as u64
-}
-
-// A byte above which none goes on behind p bytes of a path that fits: the pattern's, as long as every such path has it there, else BYTE_LIMIT, which rules
-// out none.
-pub fn last_byte(pattern: &[u8], literal: usize, p: usize) -> u64
-    ensures { λ r. ⌜ LastByte (now (pattern .entry)) literal p r ⌝ }
-{
-    if p < literal {
-        if p < pattern.len() {
-            return wide(pattern[p]);
-        }
-    }
-    BYTE_LIMIT
 }

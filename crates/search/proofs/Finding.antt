@@ -78,6 +78,16 @@ module _ {Has : List Key → ℕ → Type 0} {v p room n c : ℕ} {s k : List �
               (sym (append-nil (l .rows .put)) ∙ ap (λ (x : List Key). l .rows .put ++ x) (sym (z .0)) ∙ r .all, omega (arith, z .1, r .sum));
         }
 
+    -- what is left, by less
+    pub finding-less : {More′ : List Key → ℕ → Type 0} → ((ks : List Key) (e : ℕ) → More ks e → More′ ks e) → Finding Has More′ v p room n c s k s' k' m d
+    finding-less f =
+        record {
+          rows = l .rows;
+          nodes = l .nodes;
+          count = l .count;
+          left = λ ks e a. let r = l .left ks e a in record { more = r .more; rest = r .rest; has = f (r .more) (r .rest) (r .has); all = r .all; sum = r .sum };
+        }
+
     -- the first of what is left is found
     pub finding-on : {Item More′ : List Key → ℕ → Type 0} {s'' k'' : List ℕ} {r f : ℕ} → Searched Item v p room m d s' k' s'' k'' r f
         → ((ks : List Key) (e : ℕ) → More ks e → Parts Item More′ ks e) → Finding Has More′ v p room n c s k s'' k'' r f

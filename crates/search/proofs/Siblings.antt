@@ -6,20 +6,19 @@ use Prim.Native.Nat.{ℕ, suc, _+_, _-_, _≤_, _<_}
 use mathlib.Core.List.{List, [], _∷_, _++_, map}
 use native.Mathlib.Omega.{arith}
 use lib.ListN.{length, take, length-append}
-use lib.Dec.{leb, ltb}
+use lib.Dec.{leb}
 use lib.Seq.{length-take-le}
-use borrow.Author.Tests.{le-leb, ltb-true, ne-eqb}
+use borrow.Author.Tests.{le-leb, ne-eqb}
 use Rattle.buffer.specs.Lists.{All, nil, cons, pick}
 use Rattle.buffer.specs.Splice.{region}
-use Rattle.buffer.proofs.Lists.{all-imp, all-both, all-tested}
+use Rattle.buffer.proofs.Lists.{all-imp, all-both}
 use Rattle.buffer.proofs.Splice.{length-region}
-use Rattle.buffer.proofs.Tests.{and-right, and-both}
+use Rattle.buffer.proofs.Tests.{and-right, and-both, not-both}
 use Rattle.rows.specs.Sizes.{valueSize, pathAt}
 use Rattle.trie_theory.specs.Forest.{Strings, Key, Forest, none, leaf, inner, join, under, tops}
 use Rattle.trie_theory.specs.Strings.{at}
 use Rattle.trie_theory.specs.Dimensions.{Above, below, branching}
-use Rattle.trie_theory.specs.Sound.{Sound, Starts, Ascending}
-use Rattle.trie_theory.specs.SmallTrie.{precedes}
+use Rattle.trie_theory.specs.Sound.{Node, Sound, Starts}
 use Rattle.trie_theory.specs.Size.{height}
 use Rattle.trie_theory.specs.Search.{enters, found, nodesEntered}
 use Rattle.trie_theory.specs.Encode.{Regular, encode}
@@ -36,9 +35,9 @@ use Rattle.trie_read.proofs.Stretch.{length-part}
 use Rattle.gather.specs.KeySlots.{endedLimit, known}
 use Rattle.gather.proofs.Filling.{known-less}
 use Rattle.gather.proofs.Splitting.{leaf-high, inner-high}
-use Rattle.search.specs.Steps.{rootKind, over, takes, Descended}
+use Rattle.search.specs.Steps.{rootKind, over, takes, OneByte, Descended}
 use Rattle.search.specs.Searches.{Searched, SuffixesFound, TriesFound, BodyFound, Short, NodesFit}
-use Rattle.search.proofs.Finding.{Finding, finding-on, Parts, searched-none}
+use Rattle.search.proofs.Finding.{Finding, finding-on, finding-less, finding-end, Parts, searched-none}
 
 -- ---- tries
 
@@ -92,33 +91,15 @@ tops-sound above none h = nil
 tops-sound above (leaf s ts more) h = cons (h .0 .wide, h .0 .starts) (tops-sound above more (h .3))
 tops-sound above (inner d s children more) h = cons (h .0 .wide, h .0 .starts) (tops-sound above more (h .3))
 
--- where the first of tries that ascend has its branching byte behind the last, all have
-module _ (above : Above) (last : ℕ) (s : Strings) (more : Forest) (behind : Starts above s → last < branching above s) where
-  all-behind : Starts above s → precedes above s more ≡ true → All (λ t. last < branching above t) (s ∷ tops more)
-  unfolding precedes
-  all-behind starts h =
-      let l = behind starts in
-      cons l (all-imp (λ t e. let b = ltb-true (branching above s) (branching above t) e in omega arith) (all-tested (λ t. ltb (branching above s) (branching above t)) (tops more) h))
-
-  leaf-behind : (ts : List Key) → Sound 2 above (leaf s ts more) → Ascending above (leaf s ts more) → All (λ t. last < branching above t) (tops (leaf s ts more))
-  unfolding Sound Ascending tops
-  leaf-behind ts h a = all-behind (h .0 .starts) (a .0)
-
-  inner-behind : (d : ℕ) (children : Forest) → Sound 2 above (inner d s children more) → Ascending above (inner d s children more)
-      → All (λ t. last < branching above t) (tops (inner d s children more))
-  unfolding Sound Ascending tops
-  inner-behind d children h a = all-behind (h .0 .starts) (a .0)
-
 -- a leaf and an inner node before their siblings
-leaf-sound : (above : Above) (s : Strings) (ts : List Key) (more : Forest) → Sound 2 above (leaf s ts more) → Ascending above (leaf s ts more)
-    → Sound 2 above more × Ascending above more
-unfolding Sound Ascending
-leaf-sound above s ts more h a = (h .3, a .1)
+leaf-sound : (above : Above) (s : Strings) (ts : List Key) (more : Forest) → Sound 2 above (leaf s ts more) → Node 2 above s more × Sound 2 above more
+unfolding Sound
+leaf-sound above s ts more h = (h .0, h .3)
 
-inner-sound : (above : Above) (d : ℕ) (s : Strings) (children more : Forest) → Sound 2 above (inner d s children more) → Ascending above (inner d s children more)
-    → (Sound 2 (below d) children × Ascending (below d) children) × (Sound 2 above more × Ascending above more)
-unfolding Sound Ascending
-inner-sound above d s children more h a = ((h .2, a .1), (h .3, a .2))
+inner-sound : (above : Above) (d : ℕ) (s : Strings) (children more : Forest) → Sound 2 above (inner d s children more)
+    → Node 2 above s more × Sound 2 (below d) children × Sound 2 above more
+unfolding Sound
+inner-sound above d s children more h = (h .0, h .2, h .3)
 
 leaf-roomy : (k s : Strings) (ts : List Key) (more : Forest) → NodesFit k (leaf s ts more) → Short (join k s) × NodesFit k more
 unfolding NodesFit
@@ -134,6 +115,25 @@ unfolding over
 over-inner kind d e h =
     let n : kind - 1 ≡ d = omega arith in
     rw (ne-eqb kind rootKind (λ z. omega arith), n)
+
+-- the siblings behind a node with the strings s
+pub record Later (q : Query) (above : Above) (depth : ℕ) (k s : Strings) (t : List ℕ) (ks : List Key) (e : ℕ) : Type 0 where
+  pub found : TriesFound q above depth k t ks e
+  pub node : Node 2 above s (found .tries)
+
+-- where one branching byte alone leads on, the node that is entered has it, and no later one
+module _ {q : Query} {above : Above} {k : Strings} (one : OneByte q above k) (s : Strings) (entered : enters (reaches q) above k s ≡ true) where
+  its-byte : length s ≡ 2 → Starts above s → branching above s ≡ one .byte
+  its-byte two starts =
+      ⊎-elim (λ (e : branching above s ≡ one .byte). e) (λ (n : branching above s ≡ one .byte → ⊥). not-both entered (one .others s two starts n)) (same? (branching above s) (one .byte))
+
+  none-later : {depth : ℕ} {t : List ℕ} (ks : List Key) (e : ℕ) → Later q above depth k s t ks e → (ks ≡ []) × (e ≡ 0)
+  none-later ks e h =
+      let f = h .found in
+      let b = its-byte (h .node .wide) (h .node .starts) in
+      let n = none-in (reaches q) (takes q) above k (f .tries)
+      (all-imp (λ x y. one .others x (y .0 .0) (y .0 .1) (λ z. y .1 (b ∙ sym z))) (all-both (tops-sound above (f .tries) (f .sound)) (h .node .apart))) in
+      (f .is ∙ n .0, f .entered ∙ n .1)
 
 -- a node more
 pub record OneMore (A : List Key → ℕ → Type 0) (ks : List Key) (e : ℕ) : Type 0 where
@@ -163,7 +163,7 @@ module _ {q : Query} {above : Above} {depth : ℕ} {k : Strings} {t : List ℕ} 
         (same? kind 0)
 
     pub tries-in : kind < rootKind → enters (reaches q) above k (part 7 path t ∷ part path start t ∷ []) ≡ true → (ks : List Key) (e : ℕ) → TriesFound q above depth k t ks e
-        → Parts (OneMore (BodyFound q kind (depth - 1) (join k (part 7 path t ∷ part path start t ∷ [])) (part start next t))) (TriesFound q above depth k (part next (length t) t)) ks e
+        → Parts (OneMore (BodyFound q kind (depth - 1) (join k (part 7 path t ∷ part path start t ∷ [])) (part start next t))) (Later q above depth k (part 7 path t ∷ part path start t ∷ []) (part next (length t) t)) ks e
     tries-in byte y ks e s =
         let h = sym z ∙ is (s .tries) (s .regular) (s .bytes) in
         ⊎-elim
@@ -171,7 +171,7 @@ module _ {q : Query} {above : Above} {depth : ℕ} {k : Strings} {t : List ℕ} 
         let w = leaf-view kind path start next t (s .tries) (s .regular) (s .bytes) h o in
         let n = strings-are (w .places) (w .wide) in
         let f = leaf-in (reaches q) (takes q) above k (w .strings) (w .more) (w .suffixes) (rw n at y) in
-        let u = leaf-sound above (w .strings) (w .suffixes) (w .more) (rw (w .is) at (s .sound)) (rw (w .is) at (s .ascending)) in
+        let u = leaf-sound above (w .strings) (w .suffixes) (w .more) (rw (w .is) at (s .sound)) in
         record {
           first = pick (takes q) (map (under (join k (w .strings))) (w .suffixes));
           second = found (reaches q) (takes q) above k (w .more);
@@ -183,15 +183,17 @@ module _ {q : Query} {above : Above} {depth : ℕ} {k : Strings} {t : List ℕ} 
             is = refl;
           };
           other = record {
-            tries = w .more;
-            regular = w .shaped;
-            sound = u .0;
-            ascending = u .1;
-            high = leaf-high depth (w .strings) (w .suffixes) (w .more) (rw (w .is) at (s .high));
-            nodes-fit = leaf-roomy k (w .strings) (w .suffixes) (w .more) (rw (w .is) at (s .nodes-fit)) .1;
-            bytes = w .places .rest-is;
-            is = refl;
-            entered = refl;
+            found = record {
+              tries = w .more;
+              regular = w .shaped;
+              sound = u .1;
+              high = leaf-high depth (w .strings) (w .suffixes) (w .more) (rw (w .is) at (s .high));
+              nodes-fit = leaf-roomy k (w .strings) (w .suffixes) (w .more) (rw (w .is) at (s .nodes-fit)) .1;
+              bytes = w .places .rest-is;
+              is = refl;
+              entered = refl;
+            };
+            node = rw n (u .0);
           };
           is = s .is ∙ ap (found (reaches q) (takes q) above k) (w .is) ∙ f .0;
           sum = s .entered ∙ ap (nodesEntered (reaches q) above k) (w .is) ∙ f .1;
@@ -203,7 +205,7 @@ module _ {q : Query} {above : Above} {depth : ℕ} {k : Strings} {t : List ℕ} 
         let i = inner-high depth (w .dimension) (w .strings) (w .children) (w .more) (rw (w .is) at (s .high)) in
         let m = inner-roomy k (w .strings) (w .dimension) (w .children) (w .more) (rw (w .is) at (s .nodes-fit)) in
         let a : over kind ≡ below (w .dimension) = over-inner kind (w .dimension) (w .branches) byte in
-        let u = inner-sound above (w .dimension) (w .strings) (w .children) (w .more) (rw (w .is) at (s .sound)) (rw (w .is) at (s .ascending)) in
+        let u = inner-sound above (w .dimension) (w .strings) (w .children) (w .more) (rw (w .is) at (s .sound)) in
         record {
           first = found (reaches q) (takes q) (below (w .dimension)) (join k (w .strings)) (w .children);
           second = found (reaches q) (takes q) above k (w .more);
@@ -213,11 +215,14 @@ module _ {q : Query} {above : Above} {depth : ℕ} {k : Strings} {t : List ℕ} 
             below = nodesEntered (reaches q) (below (w .dimension)) (join k (w .strings)) (w .children);
             has = record {
               leaf = λ x. absurd (o x);
-              inner = λ x. rw (n, a) record { tries = w .children; regular = w .lower; sound = u .0 .0; ascending = u .0 .1; high = i .0; nodes-fit = m .1; bytes = w .places .body-is; is = refl; entered = refl };
+              inner = λ x. rw (n, a) record { tries = w .children; regular = w .lower; sound = u .1; high = i .0; nodes-fit = m .1; bytes = w .places .body-is; is = refl; entered = refl };
             };
             is = refl;
           };
-          other = record { tries = w .more; regular = w .shaped; sound = u .1 .0; ascending = u .1 .1; high = i .1; nodes-fit = m .2; bytes = w .places .rest-is; is = refl; entered = refl };
+          other = record {
+            found = record { tries = w .more; regular = w .shaped; sound = u .2; high = i .1; nodes-fit = m .2; bytes = w .places .rest-is; is = refl; entered = refl };
+            node = rw n (u .0);
+          };
           is = s .is ∙ ap (found (reaches q) (takes q) above k) (w .is) ∙ f .0;
           sum = s .entered ∙ ap (nodesEntered (reaches q) above k) (w .is) ∙ f .1;
         })
@@ -231,12 +236,11 @@ module _ {q : Query} {above : Above} {depth : ℕ} {k : Strings} {t : List ℕ} 
         (λ (o : kind ≡ 0).
         let w = leaf-view kind path start next t (s .tries) (s .regular) (s .bytes) h o in
         let f = leaf-out (reaches q) (takes q) above k (w .strings) (w .more) (w .suffixes) (rw (strings-are (w .places) (w .wide)) at y) in
-        let u = leaf-sound above (w .strings) (w .suffixes) (w .more) (rw (w .is) at (s .sound)) (rw (w .is) at (s .ascending)) in
+        let u = leaf-sound above (w .strings) (w .suffixes) (w .more) (rw (w .is) at (s .sound)) in
         record {
           tries = w .more;
           regular = w .shaped;
-          sound = u .0;
-          ascending = u .1;
+          sound = u .1;
           high = leaf-high depth (w .strings) (w .suffixes) (w .more) (rw (w .is) at (s .high));
           nodes-fit = leaf-roomy k (w .strings) (w .suffixes) (w .more) (rw (w .is) at (s .nodes-fit)) .1;
           bytes = w .places .rest-is;
@@ -246,12 +250,11 @@ module _ {q : Query} {above : Above} {depth : ℕ} {k : Strings} {t : List ℕ} 
         (λ (o : kind ≡ 0 → ⊥).
         let w = inner-view kind path start next t (s .tries) (s .regular) (s .bytes) h o in
         let f = inner-out (reaches q) (takes q) above k (w .strings) (w .more) (w .dimension) (w .children) (rw (strings-are (w .places) (w .wide)) at y) in
-        let u = inner-sound above (w .dimension) (w .strings) (w .children) (w .more) (rw (w .is) at (s .sound)) (rw (w .is) at (s .ascending)) in
+        let u = inner-sound above (w .dimension) (w .strings) (w .children) (w .more) (rw (w .is) at (s .sound)) in
         record {
           tries = w .more;
           regular = w .shaped;
-          sound = u .1 .0;
-          ascending = u .1 .1;
+          sound = u .2;
           high = inner-high depth (w .dimension) (w .strings) (w .children) (w .more) (rw (w .is) at (s .high)) .1;
           nodes-fit = inner-roomy k (w .strings) (w .dimension) (w .children) (w .more) (rw (w .is) at (s .nodes-fit)) .2;
           bytes = w .places .rest-is;
@@ -259,26 +262,6 @@ module _ {q : Query} {above : Above} {depth : ℕ} {k : Strings} {t : List ℕ} 
           entered = s .entered ∙ ap (nodesEntered (reaches q) above k) (w .is) ∙ f .1;
         })
         (same? kind 0)
-
-    -- the node's branching byte stands behind the last with which a search enters one: so do its siblings'
-    pub tries-behind : {last : ℕ} → (Starts above (part 7 path t ∷ part path start t ∷ []) → last < branching above (part 7 path t ∷ part path start t ∷ []))
-        → ((x : Strings) → length x ≡ 2 → Starts above x → last < branching above x → enters (reaches q) above k x ≡ false)
-        → (ks : List Key) (e : ℕ) → TriesFound q above depth k t ks e → (ks ≡ []) × (e ≡ 0)
-    tries-behind {last} behind out ks e s =
-        let n = none-in (reaches q) (takes q) above k (s .tries) (all-imp (λ x h. out x (h .0 .0) (h .0 .1) (h .1)) (all-both (tops-sound above (s .tries) (s .sound)) above-last)) in
-        (s .is ∙ n .0, s .entered ∙ n .1)
-      where
-        above-last : All (λ x. last < branching above x) (tops (s .tries))
-        above-last =
-            let h = sym z ∙ is (s .tries) (s .regular) (s .bytes) in
-            ⊎-elim
-            (λ (o : kind ≡ 0).
-            let w = leaf-view kind path start next t (s .tries) (s .regular) (s .bytes) h o in
-            rw (w .is) (leaf-behind above last (w .strings) (w .more) (rw (strings-are (w .places) (w .wide)) at behind) (w .suffixes) (rw (w .is) at (s .sound)) (rw (w .is) at (s .ascending))))
-            (λ (o : kind ≡ 0 → ⊥).
-            let w = inner-view kind path start next t (s .tries) (s .regular) (s .bytes) h o in
-            rw (w .is) (inner-behind above last (w .strings) (w .more) (rw (strings-are (w .places) (w .wide)) at behind) (w .dimension) (w .children) (rw (w .is) at (s .sound)) (rw (w .is) at (s .ascending))))
-            (same? kind 0)
 
 -- known bytes and strings that have room behind them
 short-room : (k a b : List ℕ) (v p : ℕ) → length k ≡ slotSize → v ≤ valueSize → p ≤ endedLimit → Short (join (known v p k) (a ∷ b ∷ []))
@@ -305,11 +288,17 @@ module _ {Has : List Key → ℕ → Type 0} {q : Query} {kind depth v p room n 
   room? = leb (v + (path - 7)) valueSize && leb (p + (start - path)) endedLimit
 
   -- the node is entered
-  pub siblings-in : {s' k' : List ℕ} {m' d' : ℕ} → own < rootKind → b ≡ true
-      → Searched (BodyFound q own (depth - 1) (known (v + (path - 7)) (p + (start - path)) k₁) (part start next t)) (v + (path - 7)) (p + (start - path)) room m (d + 1) s k₁ s' k' m' d'
-      → Finding Has (TriesFound q (over kind) depth (known v p k₀) (part next (length t) t)) v p room n c s₀ k₀ s' k' m' d'
-  siblings-in {k' = k'} byte y i =
-      let told : enters (reaches q) (over kind) (known v p k₀) (part 7 path t ∷ part path start t ∷ []) ≡ true = sym enters-now ∙ and-right room? _ (sym (down .is) ∙ y) in
+  entered-now : b ≡ true → enters (reaches q) (over kind) (known v p k₀) (part 7 path t ∷ part path start t ∷ []) ≡ true
+  entered-now y = sym enters-now ∙ and-right room? _ (sym (down .is) ∙ y)
+
+  -- what is found below it
+  abbrev Lower : (s' k' : List ℕ) (m' d' : ℕ) → Type 0
+  Lower s' k' m' d' =
+      Searched (BodyFound q own (depth - 1) (known (v + (path - 7)) (p + (start - path)) k₁) (part start next t)) (v + (path - 7)) (p + (start - path)) room m (d + 1) s k₁ s' k' m' d'
+
+  siblings-later : {s' k' : List ℕ} {m' d' : ℕ} → own < rootKind → b ≡ true → Lower s' k' m' d'
+      → Finding Has (Later q (over kind) depth (known v p k₀) (part 7 path t ∷ part path start t ∷ []) (part next (length t) t)) v p room n c s₀ k₀ s' k' m' d'
+  siblings-later {k' = k'} byte y i =
       let below = down .joins y ∙ ap (λ (x : Strings). join x (part 7 path t ∷ part path start t ∷ [])) (l .rows .kept) in
       finding-on l
       (record {
@@ -327,7 +316,16 @@ module _ {Has : List Key → ℕ → Type 0} {q : Query} {kind depth v p room n 
         count = omega (arith, i .count);
         are = λ ks a o. let z = i .are ks (o .below) (rw below (o .has)) in (z .0, omega (arith, z .1, o .is));
       })
-      (tries-in is own path start next e byte told)
+      (tries-in is own path start next e byte (entered-now y))
+
+  pub siblings-in : {s' k' : List ℕ} {m' d' : ℕ} → own < rootKind → b ≡ true → Lower s' k' m' d'
+      → Finding Has (TriesFound q (over kind) depth (known v p k₀) (part next (length t) t)) v p room n c s₀ k₀ s' k' m' d'
+  siblings-in byte y i = finding-less (siblings-later byte y i) (λ ks a h. h .found)
+
+  -- and no other will be
+  pub siblings-done : {s' k' : List ℕ} {m' d' : ℕ} → own < rootKind → b ≡ true → Lower s' k' m' d' → OneByte q (over kind) (known v p k₀)
+      → Searched Has v p room n c s₀ k₀ s' k' m' d'
+  siblings-done byte y i one = finding-end (siblings-later byte y i) (none-later one (part 7 path t ∷ part path start t ∷ []) (entered-now y))
 
   -- the node is passed: its strings have room, so a search does not enter it
   pub siblings-past : length k₀ ≡ slotSize → v ≤ valueSize → p ≤ endedLimit → path ≤ start → start ≤ length t → b ≡ false

@@ -224,7 +224,7 @@ unfolding known
 common-kept {q} {kind} {v} {p} {k} {k'} c e =
     let a : take v k' ≡ take v k = cc in
     let b : region k' pathAt p ≡ region k pathAt p = cc in
-    record { bytes = λ o l. rw a (c .bytes o l); last = λ h s l z y. ap (λ (x : Strings). enters (reaches q) (over kind) x s) e ∙ c .last h s l z y; other = λ z. rw (a, b) (c .other z) }
+    record { bytes = λ o l. rw a (c .bytes o l); other = λ z. rw (a, b) (c .other z); single = λ y. rw e (c .single y) }
 
 pub span-kept : {q : Query} {n from to : ℕ} (v p : ℕ) (k k' : List ℕ) → Spans q (take v k) n from to → known v p k' ≡ known v p k → Spans q (take v k') n from to
 unfolding known

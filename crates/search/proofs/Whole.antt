@@ -115,7 +115,6 @@ whole k {q} w =
             tries = f;
             regular = w .regular;
             sound = w .sound;
-            ascending = w .ascending;
             high = w .high;
             nodes-fit = nodes-fit 2 root nothing f (w .sound) slots;
             bytes = w .bytes;

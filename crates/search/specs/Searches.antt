@@ -13,7 +13,7 @@ use Rattle.rows.specs.Sizes.{valueSize, rowSize, nodeLimit}
 use Rattle.trie_theory.specs.Forest.{Strings, Key, Forest, none, leaf, inner, join, under, keys}
 use Rattle.trie_theory.specs.Strings.{at}
 use Rattle.trie_theory.specs.Dimensions.{Above, root}
-use Rattle.trie_theory.specs.Sound.{Sound, Ascending}
+use Rattle.trie_theory.specs.Sound.{Sound}
 use Rattle.trie_theory.specs.Size.{height}
 use Rattle.trie_theory.specs.Search.{found, nodesEntered}
 use Rattle.trie_theory.specs.Encode.{Regular, encode}
@@ -32,12 +32,11 @@ pub record Searched (Has : List Key → ℕ → Type 0) (v p room n c : ℕ) (s 
   pub count : d ≡ c + nodes
   pub are : (ks : List Key) (e : ℕ) → Has ks e → (rows .put ≡ ks) × (nodes ≡ e)
 
--- THE TRIE in the bytes t, sound, its siblings ascending, with keys that have slots: the keys that a search finds, and the nodes that it enters
+-- THE TRIE in the bytes t, sound, with keys that have slots: the keys that a search finds, and the nodes that it enters
 pub record TrieFound (q : Query) (t : List ℕ) (ks : List Key) (e : ℕ) : Type 0 where
   pub tries : Forest
   pub regular : Regular 2 tries
   pub sound : Sound 2 root tries
-  pub ascending : Ascending root tries
   pub high : height tries ≤ nodeLimit
   pub slots : all hasSlot (keys [] tries) ≡ true
   pub bytes : t ≡ encode tries
@@ -84,7 +83,6 @@ pub record TriesFound (q : Query) (above : Above) (depth : ℕ) (k : Strings) (t
   pub tries : Forest
   pub regular : Regular 2 tries
   pub sound : Sound 2 above tries
-  pub ascending : Ascending above tries
   pub high : height tries ≤ depth
   pub nodes-fit : NodesFit k tries
   pub bytes : t ≡ encode tries

@@ -6,7 +6,7 @@ use mathlib.Core.List.{List, [], _∷_}
 use lib.Dec.{eqb, leb}
 use lib.ListN.{length, take}
 use Rattle.buffer.specs.Splice.{region}
-use Rattle.matcher.specs.Reach.{reachOf, byteLimit}
+use Rattle.matcher.specs.Reach.{reachOf}
 use Rattle.matcher.specs.declared.reach.Answer.{Answer}
 use Rattle.matcher.specs.declared.reach.Answer.the-variants.{Match, Mismatch, Incomplete}
 use Rattle.rows.specs.Sizes.{valueSize, pathAt}
@@ -42,19 +42,17 @@ over kind = cond (eqb kind rootKind) root (below (kind - 1))
 unfoldable pub takes : Query → Key → Bool
 takes q x = hasSlot x && wants q x
 
+-- Below a node one branching byte alone leads on: a search enters no child with another
+pub record OneByte (q : Query) (above : Above) (k : Strings) : Type 0 where
+  pub byte : ℕ
+  pub others : (s : Strings) → length s ≡ 2 → Starts above s → (branching above s ≡ byte → ⊥) → enters (reaches q) above k s ≡ false
+
 -- What a search asks once for all children of a node of a kind: the branching bytes with which a value in range goes on, where the node branches in the
--- value; a branching byte behind which no child can be entered, in either dimension (256 and above rule out none); and, where there is a node, the answer of
--- the dimension in which it does not branch
+-- value; where there is a node, the answer of the dimension in which it does not branch; and whether one branching byte alone leads on
 pub record InCommon (q : Query) (kind v p : ℕ) (k : List ℕ) (r : Common) : Type 0 where
   pub bytes : kind ≡ 1 → v < valueSize → Spans q (take v k) 1 (r .from) (r .to)
-  pub last : r .to < byteLimit → (s : Strings) → length s ≡ 2 → Starts (over kind) s → r .to < branching (over kind) s
-      → enters (reaches q) (over kind) (known v p k) s ≡ false
   pub other : (kind ≡ rootKind → ⊥) → r .other ≡ cond (eqb kind 1) (reachOf (q .pattern) (region k pathAt p)) (valueReach q (take v k))
-
--- the branching byte of a node with the strings s, if there is one, stands behind the last
-pub record Behind (kind last : ℕ) (s : Strings) : Type 0 where
-  pub byte : last < byteLimit
-  pub is : Starts (over kind) s → last < branching (over kind) s
+  pub single : r .one ≡ true → OneByte q (over kind) (known v p k)
 
 -- The step to a node of the bytes t, whose strings are t[headSize..path] and t[path..body]: its strings have room behind the known bytes, and a search enters it
 pub record Descended (q : Query) (kind v p : ℕ) (t : List ℕ) (path body : ℕ) (k k' : List ℕ) (r : Bool) : Type 0 where

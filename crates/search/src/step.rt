@@ -5,14 +5,11 @@ use crate::value::span_behind;
 use crate::value::value_at;
 use crate::value::value_reach;
 use crate::value::value_with;
-use crate::value::wide;
 use buffer::moves::copy_from;
 use gather::key::ENDED_LIMIT;
 use gather::key::compose;
 use gather::key::enter;
 use matcher::reach::Answer;
-use matcher::reach::BYTE_LIMIT;
-use matcher::reach::last_byte;
 use matcher::reach::reach_from;
 use matcher::reach::ruled_out;
 use rows::sizes::PATH_AT;
@@ -27,7 +24,7 @@ ghost use lib.ListN.{length, take, getD};
 ghost use lib.Dec.{eqb, ltb};
 ghost use Rattle.buffer.specs.Splice.{region, splice};
 ghost use Rattle.matcher.specs.Form.{patternForm, isFine};
-ghost use Rattle.matcher.specs.Reach.{reachOf, goesOn, LiteralPrefix, byteLimit};
+ghost use Rattle.matcher.specs.Reach.{reachOf, goesOn, LiteralPrefix};
 ghost use Rattle.rows.specs.Sizes.{valueSize, pathAt};
 ghost use Rattle.trie_theory.specs.Search.{enters};
 ghost use Rattle.trie_read.specs.Sizes.{headSize, suffixSize};
@@ -37,7 +34,7 @@ ghost use Rattle.entries.specs.Query.{valueReach, reaches, isMatch};
 ghost use Rattle.gather.specs.KeySlots.{endedLimit, known};
 ghost use Rattle.search.specs.Asked.{asked};
 ghost use Rattle.search.specs.Spans.{Spans};
-ghost use Rattle.search.specs.Steps.{both, over, InCommon, Behind, Descended, Taken};
+ghost use Rattle.search.specs.Steps.{both, over, InCommon, Descended, Taken};
 
 // Stands for the kind of a node where there is none above. No byte is that.
 pub const ROOT: usize = 256;
@@ -84,12 +81,13 @@ fn is_match(answer: Answer) -> bool
     }
 }
 
-// What is asked once for all children of a node: which branching bytes of the value lead into the range, from..to, where it branches there; behind
-// which branching byte none can be entered, `to`, in either dimension; and the answer of the dimension in which it does not branch (at a root it says nothing).
+// What is asked once for all children of a node: which branching bytes of the value lead into the range, from..to, where it branches there; the answer
+// of the dimension in which it does not branch (at a root it says nothing); and whether one branching byte alone leads on.
 pub(crate) struct Common {
     pub(crate) from: u64,
     pub(crate) to: u64,
     pub(crate) other: Answer,
+    pub(crate) one: bool,
 }
 
 // Which branching bytes of the value lead into the range?
@@ -120,9 +118,10 @@ pub(crate) fn ask_once(
 {
     if kind == ROOT {
         return Common {
-            from: 0,
-            to: BYTE_LIMIT,
+            from: 1,
+            to: 0,
             other: Answer::Incomplete,
+            one: false,
         };
     }
     if kind == VALUE_KIND {
@@ -133,33 +132,16 @@ pub(crate) fn ask_once(
             from: bytes.from,
             to: bytes.to,
             other,
+            one: bytes.from == bytes.to,
         };
     }
     let other = value_reach(low, high, &key[0..v]);
-    let to = last_byte(pattern, literal, p);
-    Common { from: 0, to, other }
-}
-
-// Is there a first byte, and above the last?
-fn begins_above(s: &[u8], last: u64) -> bool
-    ensures { λ r. ⌜ (r ≡ true → (last < byteLimit) × (0 < length (now (s .entry))) × (last < getD (now (s .entry)) 0 0)) ⌝ }
-{
-    if s.len() == 0 {
-        return false;
+    Common {
+        from: 1,
+        to: 0,
+        other,
+        one: p < literal,
     }
-    last < wide(s[0])
-}
-
-// Does the branching byte of the node of the bytes t, whose parent is of a kind, stand behind the last? Siblings ascend, so a search enters none of
-// them from there on.
-pub(crate) fn is_behind(kind: usize, t: &[u8], path: usize, body: usize, last: u64) -> bool
-    requires { ⌜ (headSize ≤ path) × (path ≤ body) × (body ≤ length (now t)) × (kind ≡ 0 → ⊥) ⌝ }
-    ensures { λ r. ⌜ (r ≡ true → Behind kind last (part headSize path (now (t .entry)) ∷ part path body (now (t .entry)) ∷ [])) ⌝ }
-{
-    if kind == VALUE_KIND {
-        return begins_above(&t[HEAD_SIZE..path], last);
-    }
-    begins_above(&t[path..body], last)
 }
 
 // The answer for the value with the first byte of s added, if there is one: from..to are the bytes that lead into the range.

@@ -13,7 +13,7 @@ ghost use Rattle.entries.specs.Query.{Query, valueReach, lowest};
 ghost use Rattle.search.specs.Asked.{asked};
 ghost use Rattle.search.specs.Spans.{Steps, Spans};
 
-pub(crate) fn wide(b: u8) -> u64
+fn wide(b: u8) -> u64
     ensures { λ r. ⌜ (r ≡ b) × (r < 256) ⌝ }
 {
     b as u64

@@ -3,7 +3,6 @@
 use crate::step::ROOT;
 use crate::step::ask_once;
 use crate::step::descend;
-use crate::step::is_behind;
 use crate::step::take_key;
 use crate::value::span_behind;
 use entries::SLOT_SIZE;
@@ -140,9 +139,6 @@ fn walk(
                 body: start,
                 next,
             } => {
-                if is_behind(kind, t, path, start, common.to) {
-                    return Found { rows: m, nodes: n };
-                }
                 if descend(
                     key,
                     v,
@@ -173,6 +169,9 @@ fn walk(
                         m,
                         n + 1,
                     );
+                    if common.one {
+                        return found; // no sibling has that byte
+                    }
                     m = found.rows;
                     n = found.nodes;
                 }

@@ -86,7 +86,6 @@ module _ (q : Query) where
         tries = f;
         regular = good-regular room f g;
         sound = g .sound;
-        ascending = g .ascending;
         high = g .high;
         slots = all-test hasSlot (all-imp (λ x h. rowed x h .slot) (g .entries));
         bytes = e;
