@@ -3,4 +3,3 @@ pub mod Entry
 pub mod Order
 pub mod Sorted
 pub mod Records
-pub mod Heap
