@@ -1,5 +1,5 @@
 -- The laws of `beginsLabel` and `beginsLabels`, as the code meets them. Assumes nothing.
-use mathlib.Core.Path.{_≡_, refl, sym, ap₂, _∙_}
+use mathlib.Core.Path.{_≡_, refl, sym, ap, ap₂, _∙_}
 use mathlib.Core.List.{List, [], _∷_}
 use mathlib.Core.Bool.{true, false, cond, _&&_, _||_, or-true}
 use Prim.Native.Nat.{ℕ, _<_}
@@ -53,6 +53,14 @@ labels-few p (c ∷ x ∷ k) f b d l = absurd (omega arith)
 pub labels-more : (p k : List ℕ) (a b : ℕ) → Cut p a → Cut k b
     → beginsLabels (labelsOf p) (labelsOf k) ≡ deep (front p a) || cond (none (labelsOf (back k b))) (beginsLabel (front p a) (front k b)) (fitsLabel (front p a) (front k b) && beginsLabels (labelsOf (back p a)) (labelsOf (back k b)))
 labels-more p k a b h g = ap₂ beginsLabels (h .labels) (g .labels)
+
+-- a first `**` takes all
+pub labels-deep : (p k : List ℕ) (a : ℕ) → Cut p a → deep (front p a) ≡ true → beginsLabels (labelsOf p) (labelsOf k) ≡ true
+labels-deep p k a h e = ap (λ (l : List (List ℕ)). beginsLabels l (labelsOf k)) (h .labels) ∙ go (labelsOf k)
+  where
+    go : (ks : List (List ℕ)) → beginsLabels (front p a ∷ labelsOf (back p a)) ks ≡ true
+    go [] = refl
+    go (x ∷ ks) = rw e
 
 pub last-cut : (k : List ℕ) (b : ℕ) → b ≡ length k → none (labelsOf (back k b)) ≡ true
 last-cut k b e = rw (no-labels (back k b) (length-back k b ∙ omega arith))

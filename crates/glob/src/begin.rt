@@ -39,10 +39,10 @@ fn labels_begin(pattern: &[u8], known: &[u8]) -> bool
         return true; // at most a `/` is known, and any label may follow
     }
     let a = next_slash(pattern, 1);
-    let b = next_slash(known, 1);
     if is_deep(&pattern[1..a]) {
         return true;
     }
+    let b = next_slash(known, 1);
     if b == known.len() {
         return label_begins(&pattern[1..a], &known[1..b]);
     }

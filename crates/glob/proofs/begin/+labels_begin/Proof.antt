@@ -8,7 +8,7 @@ use borrow.Fn.Kinds.{In}
 use borrow.Fn.PlainCycle.{Measures, is, falls, and}
 use Rattle.glob.specs.Inner.{Cut}
 use Rattle.glob.proofs.Cuts.{cut-law}
-use Rattle.glob.proofs.Begins.{labels-end, labels-few, labels-more, last-cut, other-cut}
+use Rattle.glob.proofs.Begins.{labels-end, labels-few, labels-more, labels-deep, last-cut, other-cut}
 use Rattle.glob.proofs.begin.labels_begin.Reads as labels-begin
 use Rattle.glob.proofs.begin.labels_begin.Kinds as labels-begin-kinds
 use Rattle.glob.proofs.begin.+labels_begin.Lts-labels_begin as labels-begin-lts
@@ -38,48 +38,53 @@ labels-begin-returns t c = labels-end (c .before .before .before .args .pattern 
 labels-begin-returns-2 : (t : ℕ) → labels-begin-lts.Need-returns-2 (labels-begin-calls t) (labels-begin-at t) labels-begin.Post
 labels-begin-returns-2 t c = labels-few (c .before .before .before .before .args .pattern .now) (c .before .before .before .before .args .known .now) (c .before .if1 .left) (c .before .before .before .before .pre .1 .0) (c .before .before .before .before .pre .1 .1) (c .if2 .taken)
 
--- the first labels, cut off
-labels-begin-cuts : (t : ℕ) (c : labels-begin-lts.After-next-slash2 (labels-begin-calls t) (labels-begin-at t) labels-begin.Post) → Cut (c .before .before .before .before .before .before .args .pattern .now) (c .before .next-slash .result) × Cut (c .before .before .before .before .before .before .args .known .now) (c .next-slash2 .result)
-labels-begin-cuts t c =
-    let start = c .before .before .before .before .before .before in
-    let a = c .before .next-slash in
+-- the pattern's first label, cut off, and that of the bytes known
+labels-begin-cut : (t : ℕ) (c : labels-begin-lts.After-next-slash (labels-begin-calls t) (labels-begin-at t) labels-begin.Post) → Cut (c .before .before .before .before .before .args .pattern .now) (c .next-slash .result)
+labels-begin-cut t c = let start = c .before .before .before .before .before in cut-law (start .args .pattern .now) (c .next-slash .result) (c .before .before .if1 .left) (start .pre .1 .0) (c .next-slash .ensures .0) (c .next-slash .ensures .1)
+
+labels-begin-cut2 : (t : ℕ) (c : labels-begin-lts.After-next-slash2 (labels-begin-calls t) (labels-begin-at t) labels-begin.Post) → Cut (c .before .before .before .before .before .before .before .before .before .args .known .now) (c .next-slash2 .result)
+labels-begin-cut2 t c =
+    let start = c .before .before .before .before .before .before .before .before .before in
     let b = c .next-slash2 in
-    (cut-law (start .args .pattern .now) (a .result) (c .before .before .before .if1 .left) (start .pre .1 .0) (a .ensures .0) (a .ensures .1), cut-law (start .args .known .now) (b .result) (λ z. absurd (omega (arith, c .before .before .if2 .left, z))) (start .pre .1 .1) (b .ensures .0) (b .ensures .1))
+    cut-law (start .args .known .now) (b .result) (λ z. absurd (omega (arith, c .before .before .before .before .before .if2 .left, z))) (start .pre .1 .1) (b .ensures .0) (b .ensures .1)
 
 labels-begin-returns-3 : (t : ℕ) → labels-begin-lts.Need-returns-3 (labels-begin-calls t) (labels-begin-at t) labels-begin.Post
 labels-begin-returns-3 t c =
-    let d = c .before .before .before in
-    let known = d .before .before .before .before .before .before .args .known .now in
-    let cuts = labels-begin-cuts t d in
-    let law = labels-more (d .before .before .before .before .before .before .args .pattern .now) known (d .before .next-slash .result) (d .next-slash2 .result) (cuts .0) (cuts .1) in
-    rw (law, sym (c .before .is-deep .ensures) ∙ c .if3 .taken)
+    let e = c .before .before .before in
+    let a = e .before .before .before .before .before .args in
+    sym (labels-deep (a .pattern .now) (a .known .now) (e .next-slash .result) (labels-begin-cut t e) (sym (c .before .is-deep .ensures) ∙ c .if3 .taken))
 
 labels-begin-returns-4 : (t : ℕ) → labels-begin-lts.Need-returns-4 (labels-begin-calls t) (labels-begin-at t) labels-begin.Post
 labels-begin-returns-4 t c =
-    let d = c .before .before .before .before .before .before .before in
-    let known = d .before .before .before .before .before .before .args .known .now in
-    let cuts = labels-begin-cuts t d in
-    let law = labels-more (d .before .before .before .before .before .before .args .pattern .now) known (d .before .next-slash .result) (d .next-slash2 .result) (cuts .0) (cuts .1) in
-    rw (law, sym (c .before .before .before .before .before .is-deep .ensures) ∙ c .before .before .before .before .if3 .left, last-cut known (d .next-slash2 .result) (c .before .before .before .if4 .taken)) (c .label-begins .ensures)
+    let d = c .before .before .before .before in
+    let e = d .before .before .before .before in
+    let known = d .before .before .before .before .before .before .before .before .before .args .known .now in
+    let cut2 = labels-begin-cut2 t d in
+    let law = labels-more (d .before .before .before .before .before .before .before .before .before .args .pattern .now) known (e .next-slash .result) (d .next-slash2 .result) (labels-begin-cut t e) cut2 in
+    rw (law, sym (d .before .before .is-deep .ensures) ∙ d .before .if3 .left, last-cut known (d .next-slash2 .result) (c .before .before .before .if4 .taken)) (c .label-begins .ensures)
 
 labels-begin-requires : (t : ℕ) → labels-begin-lts.Need-labels-begin-requires (labels-begin-calls t) (labels-begin-at t) labels-begin.Post
-labels-begin-requires t c κs = let cuts = labels-begin-cuts t (c .before .before .before .before .before .before .before .before .before .before) in (search needs, (cuts .0 .begun, cuts .1 .begun))
+labels-begin-requires t c κs =
+    let d = c .before .before .before .before .before .before .before in
+    (search needs, (labels-begin-cut t (d .before .before .before .before) .begun, labels-begin-cut2 t d .begun))
 
 labels-begin-returns-5 : (t : ℕ) → labels-begin-lts.Need-returns-5 (labels-begin-calls t) (labels-begin-at t) labels-begin.Post
 labels-begin-returns-5 t c =
-    let d = c .before .before .before .before .before .before .before .before .before .before .before in
-    let known = d .before .before .before .before .before .before .args .known .now in
-    let cuts = labels-begin-cuts t d in
-    let law = labels-more (d .before .before .before .before .before .before .args .pattern .now) known (d .before .next-slash .result) (d .next-slash2 .result) (cuts .0) (cuts .1) in
-    rw (law, sym (c .before .before .before .before .before .before .before .before .before .is-deep .ensures) ∙ c .before .before .before .before .before .before .before .before .if3 .left, other-cut known (d .next-slash2 .result) (cuts .1) (c .before .before .before .before .before .before .before .if4 .left), sym (c .before .before .before .before .label-fits .ensures) ∙ c .before .before .before .if5 .taken) (c .labels-begin .ensures)
+    let d = c .before .before .before .before .before .before .before .before in
+    let e = d .before .before .before .before in
+    let known = d .before .before .before .before .before .before .before .before .before .args .known .now in
+    let cut2 = labels-begin-cut2 t d in
+    let law = labels-more (d .before .before .before .before .before .before .before .before .before .args .pattern .now) known (e .next-slash .result) (d .next-slash2 .result) (labels-begin-cut t e) cut2 in
+    rw (law, sym (d .before .before .is-deep .ensures) ∙ d .before .if3 .left, other-cut known (d .next-slash2 .result) cut2 (c .before .before .before .before .before .before .before .if4 .left), sym (c .before .before .before .before .label-fits .ensures) ∙ c .before .before .before .if5 .taken) (c .labels-begin .ensures)
 
 labels-begin-returns-6 : (t : ℕ) → labels-begin-lts.Need-returns-6 (labels-begin-calls t) (labels-begin-at t) labels-begin.Post
 labels-begin-returns-6 t c =
-    let d = c .before .before .before .before .before .before .before .before in
-    let known = d .before .before .before .before .before .before .args .known .now in
-    let cuts = labels-begin-cuts t d in
-    let law = labels-more (d .before .before .before .before .before .before .args .pattern .now) known (d .before .next-slash .result) (d .next-slash2 .result) (cuts .0) (cuts .1) in
-    rw (law, sym (c .before .before .before .before .before .before .is-deep .ensures) ∙ c .before .before .before .before .before .if3 .left, other-cut known (d .next-slash2 .result) (cuts .1) (c .before .before .before .before .if4 .left), sym (c .before .label-fits .ensures) ∙ c .if5 .left)
+    let d = c .before .before .before .before .before in
+    let e = d .before .before .before .before in
+    let known = d .before .before .before .before .before .before .before .before .before .args .known .now in
+    let cut2 = labels-begin-cut2 t d in
+    let law = labels-more (d .before .before .before .before .before .before .before .before .before .args .pattern .now) known (e .next-slash .result) (d .next-slash2 .result) (labels-begin-cut t e) cut2 in
+    rw (law, sym (d .before .before .is-deep .ensures) ∙ d .before .if3 .left, other-cut known (d .next-slash2 .result) cut2 (c .before .before .before .before .if4 .left), sym (c .before .label-fits .ensures) ∙ c .if5 .left)
 
 pub +labels-begin-spec : {M : Type 1} → statement M
 +labels-begin-spec = close μ-labels-begin λ t. labels-begin-lts.spec (labels-begin-calls t)
@@ -88,12 +93,12 @@ pub +labels-begin-spec : {M : Type 1} → statement M
     (labels-begin-returns t)
     (labels-begin-returns-2 t)
     (λ c κs. search needs)
-    (λ c κs. search needs)
     (λ c. search needs)
     (λ c. search needs)
     (λ c. search needs)
     (λ c κs. search needs)
     (labels-begin-returns-3 t)
+    (λ c κs. search needs)
     (λ c. search needs)
     (λ c. search needs)
     (λ c. search needs)
