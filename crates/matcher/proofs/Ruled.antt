@@ -15,7 +15,7 @@ use Rattle.matcher.specs.Bytes.{slash, endByte}
 use Rattle.matcher.specs.Labels.{labelsOf}
 use Rattle.matcher.specs.Form.{pathLabel, formedPath, patternForm, isFine}
 use Rattle.matcher.specs.Continued.{Continued, Told}
-use Rattle.matcher.specs.Reach.{reachOf, RuledOut}
+use Rattle.matcher.specs.Reach.{reachOf, RuledOut, OneLeads}
 use Rattle.matcher.specs.declared.reach.Answer.{Answer}
 use Rattle.matcher.specs.declared.reach.Answer.the-variants.{Match, Mismatch, Incomplete}
 use Rattle.matcher.proofs.Apart.{lastByte}
@@ -75,10 +75,12 @@ differs-first : (l : List ℕ) (c n p : ℕ) → p < length l → 0 < n → (c �
 differs-first l c zero p h m f = absurd (omega arith)
 differs-first l c (suc n) p h m f = rw (drop-cons l p 0 h, ne-eqb (getD l p 0) c (λ e. f (sym e)))
 
-pub other-byte : (pattern known : List ℕ) (literal c : ℕ) → LiteralPrefix pattern literal → length known < literal → (c ≡ getD pattern (length known) 0 → ⊥)
-    → reachOf pattern (known ++ (c ∷ [])) ≡ Mismatch
-other-byte pattern known literal c h l f =
-    ruled-out pattern known (c ∷ []) literal h (omega arith) (differs-first pattern c (literal - length known) (length known) (omega (arith, h .in-pattern)) (omega arith) f)
+pub one-byte : (pattern : List ℕ) (literal p : ℕ) (r : Bool) → (r ≡ true → p < literal) → OneLeads pattern literal p r
+one-byte pattern literal p r inside = record {
+  others = λ h e known is c f.
+      let l = inside e in
+      ruled-out pattern known (c ∷ []) literal h (omega arith) (differs-first pattern c (literal - length known) (length known) (omega (arith, h .in-pattern)) (omega arith) (rw is f));
+}
 
 -- ---- no more bytes than every path that fits begins with
 

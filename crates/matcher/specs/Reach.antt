@@ -2,7 +2,7 @@
 -- bytes (`proofs/Decided.antt`). Assumes nothing: these are definitions.
 use Prim.Native.Nat.{ℕ, _-_}
 use mathlib.Core.Path.{_≡_}
-use mathlib.Core.List.{List, _++_}
+use mathlib.Core.List.{List, [], _∷_, _++_}
 use mathlib.Core.Bool.{Bool, true, false, cond, _&&_, _||_}
 use lib.ListN.{length, take, getD}
 use lib.Dec.{eqb}
@@ -47,6 +47,11 @@ goesOn Mismatch = false
 pub record Reached (pattern known : List ℕ) (r : Answer) : Type 0 where
   pub is : r ≡ reachOf pattern known
   pub told : Told pattern known r
+
+-- what `one_leads` promises of its answer r: where it is yes, no byte but the pattern's leads on from p bytes
+pub record OneLeads (pattern : List ℕ) (literal p : ℕ) (r : Bool) : Type 0 where
+  pub others : LiteralPrefix pattern literal → r ≡ true → (known : List ℕ) → length known ≡ p → (c : ℕ) → (c ≡ getD pattern p 0 → ⊥)
+      → reachOf pattern (known ++ (c ∷ [])) ≡ Mismatch
 
 -- what `ruled_out` promises of its answer r: bytes s that differ from those with which every path that fits begins, p bytes behind the first, are a mismatch
 pub record RuledOut (pattern : List ℕ) (literal p : ℕ) (s : List ℕ) (r : Bool) : Type 0 where

@@ -9,9 +9,11 @@ use glob::fit::fits_formed;
 use glob::prefix::differs;
 ghost use mathlib.Core.Path.{_≡_};
 ghost use mathlib.Core.Bool.{true};
+ghost use Prim.Native.Nat.{ℕ};
+ghost use mathlib.Core.List.{List};
 ghost use Rattle.matcher.specs.Form.{patternForm, isFine};
 ghost use Rattle.matcher.specs.Continued.{ended};
-ghost use Rattle.matcher.specs.Reach.{reachWhole, reachOpen, reachFormed, reachOf, LiteralPrefix, Reached, RuledOut};
+ghost use Rattle.matcher.specs.Reach.{reachWhole, reachOpen, reachFormed, reachOf, LiteralPrefix, Reached, RuledOut, OneLeads};
 
 // How many bytes of a pattern does every path that fits it begin with?
 pub use glob::prefix::literal_prefix;
@@ -112,4 +114,11 @@ pub fn ruled_out(pattern: &[u8], literal: usize, p: usize, s: &[u8]) -> bool
         return false;
     }
     differs(&pattern[p..literal], s)
+}
+
+// Does at most one byte lead on from p bytes of a path? The pattern's, as long as every path that fits has it there; where it says no, nothing is known.
+pub fn one_leads(literal: usize, p: usize) -> bool
+    ensures { λ r. ⌜ ((pattern : List ℕ) → OneLeads pattern literal p r) ⌝ }
+{
+    p < literal
 }

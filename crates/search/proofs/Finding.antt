@@ -78,7 +78,7 @@ module _ {Has : List Key → ℕ → Type 0} {v p room n c : ℕ} {s k : List �
               (sym (append-nil (l .rows .put)) ∙ ap (λ (x : List Key). l .rows .put ++ x) (sym (z .0)) ∙ r .all, omega (arith, z .1, r .sum));
         }
 
-    -- what is left, by less
+    -- what is left may be said by less
     pub finding-less : {More′ : List Key → ℕ → Type 0} → ((ks : List Key) (e : ℕ) → More ks e → More′ ks e) → Finding Has More′ v p room n c s k s' k' m d
     finding-less f =
         record {

@@ -1,7 +1,7 @@
 -- Where one branching byte alone leads on below a node. Assumes nothing.
 use mathlib.Core.Path.{_≡_, refl, sym, ap, _∙_}
-use mathlib.Core.Bool.{false, _&&_}
-use Prim.Native.Nat.{ℕ, zero, suc, _+_, _-_, _≤_, _<_}
+use mathlib.Core.Bool.{Bool, true, false, _&&_}
+use Prim.Native.Nat.{ℕ, zero, suc, _-_, _≤_, _<_}
 use mathlib.Core.List.{List, [], _∷_, _++_}
 use native.Mathlib.Omega.{arith}
 use lib.ListN.{length, take, getD}
@@ -12,10 +12,9 @@ use Rattle.buffer.specs.Splice.{region}
 use Rattle.buffer.specs.Numbers.{number}
 use Rattle.buffer.proofs.Splice.{length-region}
 use Rattle.buffer.proofs.Tests.{and-false, same?}
-use Rattle.matcher.specs.Reach.{reachOf, goesOn, LiteralPrefix}
+use Rattle.matcher.specs.Reach.{reachOf, goesOn, LiteralPrefix, OneLeads}
 use Rattle.matcher.specs.declared.reach.Answer.{Answer}
 use Rattle.matcher.specs.declared.reach.Answer.the-variants.{Mismatch}
-use Rattle.matcher.proofs.Ruled.{other-byte}
 use Rattle.rows.specs.Sizes.{valueSize, pathAt}
 use Rattle.rows.proofs.Compare.{less?}
 use Rattle.trie_theory.specs.Forest.{Strings}
@@ -81,11 +80,9 @@ module _ (pattern : List ℕ) (low high v p byte : ℕ) (k : List ℕ) (long : l
     pub value-byte : (kind : ℕ) → kind ≡ 1 → OneByte q (over kind) (known v p k)
     value-byte kind e = record { byte = byte; others = λ s two. two-strings (Refused kind) s two (value-pair kind e) }
 
-  module _ (literal : ℕ) (h : p ≤ endedLimit) (plain : LiteralPrefix pattern literal) (inside : p < literal) (is : byte ≡ getD pattern p 0) where
+  module _ {literal : ℕ} {b : Bool} (h : p ≤ endedLimit) (plain : LiteralPrefix pattern literal) (leads : OneLeads pattern literal p b) (yes : b ≡ true) (is : byte ≡ getD pattern p 0) where
     path-out : (c : ℕ) → (c ≡ byte → ⊥) → reachOf pattern (region k pathAt p ++ (c ∷ [])) ≡ Mismatch
-    path-out c other =
-        let l = length-region k pathAt p (omega arith) in
-        other-byte pattern (region k pathAt p) literal c plain (omega arith) (λ e. other (e ∙ ap (λ (i : ℕ). getD pattern i 0) l ∙ sym is))
+    path-out c other = leads .others plain yes (region k pathAt p) (length-region k pathAt p (omega arith)) c (λ e. other (e ∙ sym is))
 
     path-pair : (kind : ℕ) → (kind ≡ 0 → ⊥) → (kind ≡ 1 → ⊥) → (kind ≡ rootKind → ⊥) → (a b : List ℕ) → Refused kind (a ∷ b ∷ [])
     unfolding over Starts branching first

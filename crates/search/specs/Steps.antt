@@ -42,13 +42,13 @@ over kind = cond (eqb kind rootKind) root (below (kind - 1))
 unfoldable pub takes : Query → Key → Bool
 takes q x = hasSlot x && wants q x
 
--- Below a node one branching byte alone leads on: a search enters no child with another
+-- Below a node at most one branching byte leads on: a search enters no child with another than `byte`
 pub record OneByte (q : Query) (above : Above) (k : Strings) : Type 0 where
   pub byte : ℕ
   pub others : (s : Strings) → length s ≡ 2 → Starts above s → (branching above s ≡ byte → ⊥) → enters (reaches q) above k s ≡ false
 
 -- What a search asks once for all children of a node of a kind: the branching bytes with which a value in range goes on, where the node branches in the
--- value; where there is a node, the answer of the dimension in which it does not branch; and whether one branching byte alone leads on
+-- value; where there is a node, the answer of the dimension in which it does not branch; and `one`: if true, at most one branching byte leads on
 pub record InCommon (q : Query) (kind v p : ℕ) (k : List ℕ) (r : Common) : Type 0 where
   pub bytes : kind ≡ 1 → v < valueSize → Spans q (take v k) 1 (r .from) (r .to)
   pub other : (kind ≡ rootKind → ⊥) → r .other ≡ cond (eqb kind 1) (reachOf (q .pattern) (region k pathAt p)) (valueReach q (take v k))

@@ -10,6 +10,7 @@ use gather::key::ENDED_LIMIT;
 use gather::key::compose;
 use gather::key::enter;
 use matcher::reach::Answer;
+use matcher::reach::one_leads;
 use matcher::reach::reach_from;
 use matcher::reach::ruled_out;
 use rows::sizes::PATH_AT;
@@ -20,7 +21,7 @@ ghost use mathlib.Core.Path.{_≡_};
 ghost use mathlib.Core.Bool.{true, cond, _&&_};
 ghost use Prim.Native.Nat.{ℕ, _+_, _-_, _≤_, _<_};
 ghost use mathlib.Core.List.{List, [], _∷_, _++_};
-ghost use lib.ListN.{length, take, getD};
+ghost use lib.ListN.{length, take};
 ghost use lib.Dec.{eqb, ltb};
 ghost use Rattle.buffer.specs.Splice.{region, splice};
 ghost use Rattle.matcher.specs.Form.{patternForm, isFine};
@@ -82,7 +83,7 @@ fn is_match(answer: Answer) -> bool
 }
 
 // What is asked once for all children of a node: which branching bytes of the value lead into the range, from..to, where it branches there; the answer
-// of the dimension in which it does not branch (at a root it says nothing); and whether one branching byte alone leads on.
+// of the dimension in which it does not branch (at a root it says nothing); and `one`: if true, at most one branching byte leads on.
 pub(crate) struct Common {
     pub(crate) from: u64,
     pub(crate) to: u64,
@@ -140,7 +141,7 @@ pub(crate) fn ask_once(
         from: 1,
         to: 0,
         other,
-        one: p < literal,
+        one: one_leads(literal, p),
     }
 }
 

@@ -170,7 +170,7 @@ fn walk(
                         n + 1,
                     );
                     if common.one {
-                        return found; // no sibling has that byte
+                        return found; // at most one byte leads on, and no sibling has it
                     }
                     m = found.rows;
                     n = found.nodes;

@@ -5,7 +5,7 @@ use Prim.Native.Nat.{ℕ, _+_, _-_, _<_}
 use mathlib.Core.Path.{_≡_, refl, sym, ap, _∙_}
 use lib.ListN.{take, drop}
 use lib.Seq.{length-take-le}
-use borrow.Author.Tests.{eq-eqb, ne-eqb, eqb-true, ltb-true}
+use borrow.Author.Tests.{eq-eqb, ne-eqb, eqb-true}
 use Rattle.buffer.proofs.Tests.{not-both}
 use Rattle.matcher.specs.Reach.{reachOf}
 use Rattle.rows.specs.Sizes.{valueSize, pathAt}
@@ -44,14 +44,14 @@ returns-2 c =
 
 returns-3 : tie.Need-returns-3
 returns-3 c =
-    let a = c .before .before .before .before .before .before .args in
-    let pre = c .before .before .before .before .before .before .pre in
-    let one = c .before .before .if2 .left in
+    let a = c .before .before .before .before .before .before .before .args in
+    let pre = c .before .before .before .before .before .before .before .pre in
+    let one = c .before .before .before .if2 .left in
     record {
       bytes = λ k short. absurd (one k);
-      other = λ z. rw (ne-eqb (a .kind) 1 one) (c .value-reach .ensures (a .pattern .now) ∙ ap (λ (n : ℕ). valueReach (asked (a .pattern .now) (a .low) (a .high)) (take n (a .key .now))) (from-start (a .v)));
+      other = λ z. rw (ne-eqb (a .kind) 1 one) (c .before .value-reach .ensures (a .pattern .now) ∙ ap (λ (n : ℕ). valueReach (asked (a .pattern .now) (a .low) (a .high)) (take n (a .key .now))) (from-start (a .v)));
       single = λ y.
-          path-byte (a .pattern .now) (a .low) (a .high) (a .v) (a .p) _ (a .key .now) (pre .1 .0) (a .literal) (pre .1 .2) (pre .0 .1) (ltb-true (a .p) (a .literal) y) refl (a .kind) (pre .1 .3) one (c .before .before .before .if1 .left);
+          path-byte (a .pattern .now) (a .low) (a .high) (a .v) (a .p) _ (a .key .now) (pre .1 .0) (pre .1 .2) (pre .0 .1) (c .one-leads .ensures (a .pattern .now)) y refl (a .kind) (pre .1 .3) one (c .before .before .before .before .if1 .left);
     }
 
 pub ask-once-spec : {M : Type 1} → statement M
@@ -72,5 +72,6 @@ ask-once-spec =
     (λ c. search needs)
     (λ c. search needs)
     (λ c. search needs)
+    (λ c κs. search needs)
     (λ c κs. search needs)
     returns-3)
