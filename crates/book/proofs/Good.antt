@@ -19,7 +19,7 @@ use Rattle.book.specs.Tries.{levelTrie, tries}
 use Rattle.book.specs.Good.{Tries-Good}
 use Rattle.book.proofs.Keys.{keys-entries}
 use Rattle.book.proofs.Image.{level-formed, small-formed, small-trie-of, level-trie-of, image-fits}
-use Rattle.book.proofs.OverTries.{small-for, level-for}
+use Rattle.book.proofs.OverTries.{small-for, level-for, accepted-in}
 
 module _ (es : List Entry) (h : all formed es ≡ true) where
   small-shape : Ascending root (smallTrie (map entryKey es)) × EmptySuffixes (smallTrie (map entryKey es))
@@ -37,11 +37,11 @@ tries-good b s =
     let g = small-for b s in
     let fit = image-fits b s in
     record {
-      small = record { sound = g .sound; ascending = small-shape es f .0; entries = g .entries; high = figures (small-trie-of es f) .1; fits = fit .small };
+      small = record { sound = g .sound; ascending = small-shape es f .0; entries = g .entries; accepted = accepted-in g f; high = figures (small-trie-of es f) .1; fits = fit .small };
       empty-suffixes = small-shape es f .1;
       levels = λ i l.
           (let ds = level (b .M) i (b .entries) in
           let k = level-formed (b .M) i (b .entries) (s .formed) in
           let r = level-for b s i in
-          record { sound = r .sound; ascending = level-ascending ds k (b .τ); entries = r .entries; high = figures (level-trie-of ds k (b .τ)) .1; fits = fit .levels i l });
+          record { sound = r .sound; ascending = level-ascending ds k (b .τ); entries = r .entries; accepted = accepted-in r k; high = figures (level-trie-of ds k (b .τ)) .1; fits = fit .levels i l });
     }

@@ -181,10 +181,12 @@ path-before pattern k s h c =
     let rest = drop (length k) s in
     record {
       is-pattern = c .is-pattern;
-      path = c .path;
-      is-path = c .is-path;
-      more = rest ++ c .more;
-      goes-on = sym (append-assoc k rest (c .more)) ∙ ap (λ (l : List ℕ). l ++ c .more) (drop-prefix k s h) ∙ c .goes-on;
+      first = record {
+        path = c .first .path;
+        is-path = c .first .is-path;
+        more = rest ++ c .first .more;
+        goes-on = sym (append-assoc k rest (c .first .more)) ∙ ap (λ (l : List ℕ). l ++ c .first .more) (drop-prefix k s h) ∙ c .first .goes-on;
+      };
       fits = c .fits;
     }
 

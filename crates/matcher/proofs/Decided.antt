@@ -1,7 +1,7 @@
 -- The test `reachOf` says what it means, `Told`, of every pattern and all known bytes. Assumes nothing.
 use mathlib.Core.Path.{_≡_, refl, sym, ap, ap₂, subst, _∙_}
 use mathlib.Core.List.{List, [], _∷_, _++_, append-assoc, append-nil}
-use mathlib.Core.Bool.{Bool, true, false, not, cond, _&&_}
+use mathlib.Core.Bool.{Bool, true, false, cond, _&&_}
 use Prim.Native.Nat.{ℕ, suc, _-_, _≤_}
 use native.Mathlib.Omega.{arith}
 use lib.ListN.{length, take, drop-of-length-le}
@@ -15,17 +15,18 @@ use Rattle.matcher.specs.Labels.{labelsOf}
 use Rattle.matcher.specs.Form.{apart, pathLabel, patternLabel, formedPath, formedPattern, pathForm, patternForm, isFine}
 use Rattle.matcher.specs.Fit.{fit, fitLabels, fitsPath}
 use Rattle.matcher.specs.Matches.{matches}
-use Rattle.matcher.specs.Continued.{Continued, ended, Told}
-use Rattle.matcher.specs.Reach.{beginsPath, beginsLabels, reachWhole, reachOpen, reachFormed, reachOf, goesOn, Reached}
+use Rattle.matcher.specs.Continued.{FirstBytes, Continued, ended, Told}
+use Rattle.matcher.specs.Reach.{beginsPath, isFirst, beginsLabels, reachLabels, reachOf, goesOn, Reached}
 use Rattle.matcher.specs.declared.reach.Answer.{Answer}
 use Rattle.matcher.specs.declared.reach.Answer.the-variants.{Match, Mismatch, Incomplete}
-use Rattle.buffer.proofs.Tests.{not-both, and-left, and-right, and-both}
+use Rattle.buffer.proofs.Tests.{not-both, and-left, and-right, and-both, and-false}
 use Rattle.glob.proofs.Parts.{no-items, not-none, last-place}
 use Rattle.matcher.proofs.Forms.{fine-path, fine-pattern, matches-pattern, matches-path, matches-fits, labelled-all}
 use Rattle.matcher.proofs.Apart.{lastByte}
 use Rattle.matcher.proofs.Goes.{begins-all, goes-all}
 use Rattle.matcher.proofs.Joined.{joined, join-begun, labels-of-join, formed-join, ext-join, prefix-ext}
-use Rattle.matcher.proofs.Prefixes.{begins-of, opened, last-of, before-last, closed-path, open-path}
+use Rattle.matcher.proofs.Prefixes.{opened, before-last}
+use Rattle.matcher.proofs.Firsts.{ended-whole, last-split, first-whole, whole-path, longer-path, first-tested}
 
 pattern-some : (p : List ℕ) → formedPattern p ≡ true → none (labelsOf p) ≡ false
 pattern-some [] e = not-both e refl
@@ -50,10 +51,12 @@ module _ (pattern known : List ℕ) (P : isFine (patternForm pattern) ≡ true) 
       let m = ext-join (labelsOf known) (g .labels) (g .goes-on) in
       record {
         is-pattern = P;
-        path = joined (g .labels);
-        is-path = formed-join (g .labels) (g .some) (g .formed);
-        more = m .0 ++ (endByte ∷ []);
-        goes-on = sym (append-assoc known (m .0) (endByte ∷ [])) ∙ ap (λ (s : List ℕ). s ++ (endByte ∷ [])) (ap (λ (s : List ℕ). s ++ m .0) (sym (join-begun known (begins-begun known b))) ∙ m .1);
+        first = record {
+          path = joined (g .labels);
+          is-path = formed-join (g .labels) (g .some) (g .formed);
+          more = m .0 ++ (endByte ∷ []);
+          goes-on = sym (append-assoc known (m .0) (endByte ∷ [])) ∙ ap (λ (s : List ℕ). s ++ (endByte ∷ [])) (ap (λ (s : List ℕ). s ++ m .0) (sym (join-begun known (begins-begun known b))) ∙ m .1);
+        };
         fits = subst (λ (l : List (List ℕ)). fitLabels (labelsOf pattern) l ≡ true) (sym (labels-of-join (g .labels) (g .formed))) (g .fits);
       }
 
@@ -65,89 +68,59 @@ some-fits pattern P = goes-on-open pattern [] P refl (go (labelsOf pattern) (pat
     go [] h = not-both refl h
     go (p ∷ ps) h = refl
 
--- bytes with the end byte last, and others
-ended-last : (known : List ℕ) → ended known ≡ true → (length known ≡ 0 → ⊥) × (lastByte known ≡ endByte)
-ended-last [] e = not-both e refl
-ended-last (c ∷ k) e = ((λ z. absurd (omega arith)), eqb-true (lastByte (c ∷ k)) endByte e)
+-- THE ANSWER SAYS WHAT IT MEANS: of a formed pattern and the first bytes of a path by the labels, else it is a mismatch
+module _ (pattern known : List ℕ) (P : isFine (patternForm pattern) ≡ true) (F : isFirst known ≡ true) where
+  told-whole : ended known ≡ true → Told pattern known (cond (fitsPath pattern (take (length known - 1) known)) Match Mismatch)
+  told-whole o = go (fitsPath pattern (take (length known - 1) known)) refl
+    where
+      whole : FirstBytes known
+      whole = record { path = take (length known - 1) known; is-path = rw o at F; more = []; goes-on = append-nil known ∙ last-split known o }
 
-ended-whole : (path : List ℕ) → ended (path ++ (endByte ∷ [])) ≡ true
-ended-whole path = and-both (some path) (eq-eqb (lastByte (path ++ (endByte ∷ []))) endByte (last-of path endByte))
-  where
-    some : (s : List ℕ) → not (none (s ++ (endByte ∷ []))) ≡ true
-    some [] = refl
-    some (c ∷ s) = refl
+      go : (b : Bool) → fitsPath pattern (take (length known - 1) known) ≡ b → Told pattern known (cond b Match Mismatch)
+      go true e = (record { is-pattern = P; first = whole; fits = e }, last-split known o)
+      go false e = λ C. not-both (ap (fitsPath pattern) (whole-path known (C .first) o) ∙ C .fits) e
 
-last-split : (known : List ℕ) → ended known ≡ true → known ≡ take (length known - 1) known ++ (endByte ∷ [])
-last-split known e =
-    let l = ended-last known e in
-    let n = length known - 1 in
-    split-at known n 0 (last-place (length known) (l .0)) ∙ ap₂ (λ (x : ℕ) (t : List ℕ). take n known ++ (x ∷ t)) (l .1) (drop-of-length-le known (above (length known)))
-  where
-    above : (n : ℕ) → n ≤ suc (n - 1)
-    above n = omega arith
+  told-open : ended known ≡ false → Told pattern known (cond (beginsLabels (labelsOf pattern) (labelsOf known)) Incomplete Mismatch)
+  told-open o = go (beginsLabels (labelsOf pattern) (labelsOf known)) refl
+    where
+      go : (b : Bool) → beginsLabels (labelsOf pattern) (labelsOf known) ≡ b → Told pattern known (cond b Incomplete Mismatch)
+      go true e = (goes-on-open pattern known P (rw o at F) e, o)
+      go false e = λ C.
+          let n = longer-path known (C .first) o in
+          not-both (begins-all (labelsOf pattern) (labelsOf known) (labelsOf (C .first .path)) (prefix-ext known (n .0) (C .first .path) (n .1)) (C .fits)) e
 
-told-open : (pattern known : List ℕ) → isFine (patternForm pattern) ≡ true → ended known ≡ false → Told pattern known (reachOpen pattern known)
-told-open pattern known P o = go (beginsPath known && beginsLabels (labelsOf pattern) (labelsOf known)) refl
-  where
-    go : (b : Bool) → beginsPath known && beginsLabels (labelsOf pattern) (labelsOf known) ≡ b → Told pattern known (cond b Incomplete Mismatch)
-    go true e = (goes-on-open pattern known P (and-left (beginsPath known) (beginsLabels (labelsOf pattern) (labelsOf known)) e) (and-right (beginsPath known) (beginsLabels (labelsOf pattern) (labelsOf known)) e), o)
-    go false e = λ C.
-        let n = open-path known (C .path) (C .more) (C .is-path) (C .goes-on) (λ z. not-both (ap ended z ∙ ended-whole (C .path)) o) in
-        not-both (and-both (begins-of known (n .0) (C .path) (n .1) (C .is-path)) (begins-all (labelsOf pattern) (labelsOf known) (labelsOf (C .path)) (prefix-ext known (n .0) (C .path) (n .1)) (C .fits))) e
-
-told-whole : (pattern known : List ℕ) → isFine (patternForm pattern) ≡ true → ended known ≡ true → Told pattern known (reachWhole pattern (take (length known - 1) known))
-told-whole pattern known P o = go (formedPath (take (length known - 1) known) && fitsPath pattern (take (length known - 1) known)) refl
-  where
-    go : (b : Bool) → formedPath (take (length known - 1) known) && fitsPath pattern (take (length known - 1) known) ≡ b → Told pattern known (cond b Match Mismatch)
-    go true e =
-        let s = take (length known - 1) known in
-        (record { is-pattern = P; path = s; is-path = and-left (formedPath s) (fitsPath pattern s) e; more = []; goes-on = append-nil known ∙ last-split known o; fits = and-right (formedPath s) (fitsPath pattern s) e }, last-split known o)
-    go false e = λ C.
-        let l = ended-last known o in
-        let w = closed-path known (C .path) (C .more) (C .is-path) (C .goes-on) (l .0) (l .1) in
-        let s : take (length known - 1) known ≡ C .path = ap (λ (k : List ℕ). take (length k - 1) k) w ∙ before-last (C .path) endByte in
-        not-both (and-both (ap formedPath s ∙ C .is-path) (ap (fitsPath pattern) s ∙ C .fits)) e
+  told-labels : Told pattern known (reachLabels pattern known)
+  told-labels = go (ended known) refl
+    where
+      go : (d : Bool) → ended known ≡ d
+          → Told pattern known (cond d (cond (fitsPath pattern (take (length known - 1) known)) Match Mismatch) (cond (beginsLabels (labelsOf pattern) (labelsOf known)) Incomplete Mismatch))
+      go true e = told-whole e
+      go false e = told-open e
 
 pub told : (pattern known : List ℕ) → Told pattern known (reachOf pattern known)
 unfolding reachOf
-told pattern known = go (isFine (patternForm pattern)) refl (ended known) refl
+told pattern known = go (isFine (patternForm pattern) && isFirst known) refl
   where
-    go : (f : Bool) → isFine (patternForm pattern) ≡ f → (d : Bool) → ended known ≡ d
-        → Told pattern known (cond f (cond d (reachWhole pattern (take (length known - 1) known)) (reachOpen pattern known)) Mismatch)
-    go true P true e = told-whole pattern known P e
-    go true P false e = told-open pattern known P e
-    go false P d e = λ C. not-both (C .is-pattern) P
+    go : (b : Bool) → isFine (patternForm pattern) && isFirst known ≡ b → Told pattern known (cond b (reachLabels pattern known) Mismatch)
+    go true e = told-labels pattern known (and-left (isFine (patternForm pattern)) (isFirst known) e) (and-right (isFine (patternForm pattern)) (isFirst known) e)
+    go false e = λ C. not-both (and-both (C .is-pattern) (first-tested known (C .first))) e
 
 pub reached : (pattern known : List ℕ) (r : Answer) → r ≡ reachOf pattern known → Reached pattern known r
 reached pattern known r e = record { is = e; told = subst (Told pattern known) (sym e) (told pattern known) }
 
--- the end byte, as the code meets it: nothing is known, or the last byte tells
-pub ended-none : (known : List ℕ) → length known ≡ 0 → false ≡ ended known
-ended-none known l = rw (no-items known l)
-
-pub ended-some : (known : List ℕ) → (length known ≡ 0 → ⊥) → eqb (lastByte known) endByte ≡ ended known
-ended-some known f = rw (not-none known f)
-
-pub ended-long : (known : List ℕ) → ended known ≡ true → 1 ≤ length known
-ended-long [] e = not-both e refl
-ended-long (c ∷ k) e = omega arith
-
 -- the answer, as the code meets it
 module _ (pattern known : List ℕ) where
-  pub reach-ended : ended known ≡ true → reachFormed pattern known ≡ reachWhole pattern (take (length known - 1) known)
-  reach-ended e = rw e
+  pub reach-unformed : isFine (patternForm pattern) ≡ false → reachOf pattern known ≡ Mismatch
+  unfolding reachOf
+  reach-unformed e = rw e
 
-  pub reach-more : ended known ≡ false → reachFormed pattern known ≡ reachOpen pattern known
-  reach-more e = rw e
+  pub reach-unlike : isFirst known ≡ false → reachOf pattern known ≡ Mismatch
+  unfolding reachOf
+  reach-unlike e = rw (e, and-false (isFine (patternForm pattern)) false refl)
 
--- of a formed pattern it is the answer
-pub reached-formed : (pattern known : List ℕ) (r : Answer) → r ≡ reachFormed pattern known → isFine (patternForm pattern) ≡ true → Reached pattern known r
-unfolding reachOf
-reached-formed pattern known r e P = reached pattern known r (e ∙ rw P)
-
-pub reach-unformed : (pattern known : List ℕ) → isFine (patternForm pattern) ≡ false → reachOf pattern known ≡ Mismatch
-unfolding reachOf
-reach-unformed pattern known e = rw e
+  pub reach-labels : isFine (patternForm pattern) ≡ true → isFirst known ≡ true → reachLabels pattern known ≡ reachOf pattern known
+  unfolding reachOf
+  reach-labels P F = rw (P, F)
 
 -- For callers. A path that matches is never missed: no bytes that begin it, with its end byte, are a mismatch
 pub never-missed : (pattern path known more : List ℕ) → matches pattern path ≡ true → known ++ more ≡ path ++ (endByte ∷ []) → goesOn (reachOf pattern known) ≡ true
@@ -157,7 +130,7 @@ never-missed pattern path known more e g = go (reachOf pattern known) (told patt
     P = matches-pattern pattern path e
 
     C : Continued pattern known
-    C = record { is-pattern = P; path = path; is-path = fine-path path (matches-path pattern path e); more = more; goes-on = g; fits = sym (matches-fits pattern path P (matches-path pattern path e)) ∙ e }
+    C = record { is-pattern = P; first = record { path = path; is-path = fine-path path (matches-path pattern path e); more = more; goes-on = g }; fits = sym (matches-fits pattern path P (matches-path pattern path e)) ∙ e }
 
     go : (r : Answer) → Told pattern known r → goesOn r ≡ true
     go Match t = refl
@@ -175,19 +148,18 @@ continued pattern known e = go (reachOf pattern known) (told pattern known) e
 
 -- a path with its end byte matches or does not
 pub reach-path : (pattern path : List ℕ) → isFine (pathForm path) ≡ true → reachOf pattern (path ++ (endByte ∷ [])) ≡ cond (matches pattern path) Match Mismatch
-unfolding reachOf matches
-reach-path pattern path e =
-    let known = path ++ (endByte ∷ []) in
-    let formed = isFine (patternForm pattern) in
-    ap (λ (d : Bool). cond formed (cond d (reachWhole pattern (take (length known - 1) known)) (reachOpen pattern known)) Mismatch) (ended-whole path)
-    ∙ ap (λ (s : List ℕ). cond formed (reachWhole pattern s) Mismatch) (before-last path endByte)
-    ∙ ap (λ (b : Bool). cond formed (cond (b && fitsPath pattern path) Match Mismatch) Mismatch) (fine-path path e)
-    ∙ go formed (fitsPath pattern path)
-    ∙ ap (λ (b : Bool). cond (formed && (b && fitsPath pattern path)) Match Mismatch) (sym e)
+unfolding matches
+reach-path pattern path e = go (isFine (patternForm pattern)) refl
   where
-    go : (f b : Bool) → cond f (cond b Match Mismatch) Mismatch ≡ cond (f && b) Match Mismatch
-    go true b = refl
-    go false b = refl
+    known : List ℕ
+    known = path ++ (endByte ∷ [])
+
+    labels : reachLabels pattern known ≡ cond (fitsPath pattern path) Match Mismatch
+    labels = rw (ended-whole path, before-last path endByte)
+
+    go : (f : Bool) → isFine (patternForm pattern) ≡ f → reachOf pattern known ≡ cond (isFine (patternForm pattern) && (isFine (pathForm path) && fitsPath pattern path)) Match Mismatch
+    go true P = sym (reach-labels pattern known P (first-tested known (first-whole path (fine-path path e)))) ∙ labels ∙ rw (P, e)
+    go false P = reach-unformed pattern known P ∙ rw P
 
 -- P10, in full: no path that begins with `/gs/` matches `/fs/*`
 pub p10-none : Continued (slash ∷ 102 ∷ 115 ∷ slash ∷ star ∷ []) (slash ∷ 103 ∷ 115 ∷ slash ∷ []) → ⊥

@@ -5,5 +5,6 @@ pub mod Forms
 mod Goes
 mod Joined
 mod Prefixes
+pub mod Firsts
 pub mod Decided
 pub mod Ruled

@@ -39,19 +39,19 @@ module _ (pattern known s : List ℕ) (n : ℕ) (h : LiteralPrefix pattern n) (l
 
   behind : Continued pattern (known ++ s) → differs left s ≡ false
   behind c =
-      let path = c .path in
+      let path = c .first .path in
       let p = length known in
       let k = n - p in
-      let same : take n path ≡ take n pattern = h .begins path (path-slash path (c .is-path)) (c .fits) in
+      let same : take n path ≡ take n pattern = h .begins path (path-slash path (c .first .is-path)) (c .fits) in
       let size : length (take n path) ≡ n = ap length same ∙ length-take-le n pattern (h .in-pattern) in
       let long : n ≤ length path = let m = length-take n path in omega arith in
       let seam : p + k ≡ n = omega arith in
-      let read : take n (path ++ (endByte ∷ [])) ≡ known ++ take k (s ++ c .more) =
-      ap (take n) (sym (c .goes-on) ∙ append-assoc known s (c .more)) ∙ ap (λ (i : ℕ). take i (known ++ (s ++ c .more))) (sym seam) ∙ take-append-add known (s ++ c .more) k in
-      let both : take p pattern ++ left ≡ known ++ take k (s ++ c .more) =
+      let read : take n (path ++ (endByte ∷ [])) ≡ known ++ take k (s ++ c .first .more) =
+      ap (take n) (sym (c .first .goes-on) ∙ append-assoc known s (c .first .more)) ∙ ap (λ (i : ℕ). take i (known ++ (s ++ c .first .more))) (sym seam) ∙ take-append-add known (s ++ c .first .more) k in
+      let both : take p pattern ++ left ≡ known ++ take k (s ++ c .first .more) =
       sym (take-add p k pattern) ∙ ap (λ (i : ℕ). take i pattern) seam ∙ sym same ∙ sym (take-append-le n path (endByte ∷ []) long) ∙ read in
-      let is : left ≡ take k (s ++ c .more) = sym (drop-at (take p pattern) left p (length-take-le p pattern (omega (arith, h .in-pattern)))) ∙ ap (drop p) both ∙ drop-at known (take k (s ++ c .more)) p refl in
-      ap (λ (t : List ℕ). differs t s) is ∙ alike k s (c .more)
+      let is : left ≡ take k (s ++ c .first .more) = sym (drop-at (take p pattern) left p (length-take-le p pattern (omega (arith, h .in-pattern)))) ∙ ap (drop p) both ∙ drop-at known (take k (s ++ c .first .more)) p refl in
+      ap (λ (t : List ℕ). differs t s) is ∙ alike k s (c .first .more)
 
   pub ruled-out : differs left s ≡ true → reachOf pattern (known ++ s) ≡ Mismatch
   ruled-out e = go (reachOf pattern (known ++ s)) (told pattern (known ++ s))
@@ -97,21 +97,23 @@ same-bytes (c ∷ l) (x ∷ s) h e =
 
 module _ (pattern : List ℕ) (literal : ℕ) (P : isFine (patternForm pattern) ≡ true) (h : LiteralPrefix pattern literal) where
   -- some path fits, and begins with them
-  literal-path : (n : ℕ) → n ≤ literal → (C : Continued pattern (take n pattern)) × (literal ≤ length (C .path))
+  literal-path : (n : ℕ) → n ≤ literal → (C : Continued pattern (take n pattern)) × (literal ≤ length (C .first .path))
   literal-path n l =
       let C = some-fits pattern P in
-      let path = C .path in
-      let same : take literal path ≡ take literal pattern = h .begins path (path-slash path (C .is-path)) (C .fits) in
+      let path = C .first .path in
+      let same : take literal path ≡ take literal pattern = h .begins path (path-slash path (C .first .is-path)) (C .fits) in
       let size : length (take literal path) ≡ literal = ap length same ∙ length-take-le literal pattern (h .in-pattern) in
-      let first : take n path ≡ take n pattern = sym (take-take n literal path l) ∙ ap (take n) same ∙ take-take n literal pattern l in (
+      let same-first : take n path ≡ take n pattern = sym (take-take n literal path l) ∙ ap (take n) same ∙ take-take n literal pattern l in (
         record {
           is-pattern = P;
-          path = path;
-          is-path = C .is-path;
-          more = drop n path ++ (endByte ∷ []);
-          goes-on =
-              sym (append-assoc (take n pattern) (drop n path) (endByte ∷ []))
-              ∙ ap (λ (s : List ℕ). s ++ (endByte ∷ [])) (ap (λ (s : List ℕ). s ++ drop n path) (sym first) ∙ take-append-drop n path);
+          first = record {
+            path = path;
+            is-path = C .first .is-path;
+            more = drop n path ++ (endByte ∷ []);
+            goes-on =
+                sym (append-assoc (take n pattern) (drop n path) (endByte ∷ []))
+                ∙ ap (λ (s : List ℕ). s ++ (endByte ∷ [])) (ap (λ (s : List ℕ). s ++ drop n path) (sym same-first) ∙ take-append-drop n path);
+          };
           fits = C .fits;
         },
         let m = length-take literal path in omega arith,
@@ -124,9 +126,9 @@ module _ (pattern : List ℕ) (literal : ℕ) (P : isFine (patternForm pattern) 
       go Incomplete t = refl
       go Mismatch t = absurd (t (literal-path n l .0))
       go Match t =
-          let D = literal-path n l .0 in
-          let long = ap length (t .1) ∙ length-append (t .0 .path) (endByte ∷ []) in
-          let w = closed-path (take n pattern) (D .path) (D .more) (D .is-path) (D .goes-on) (λ z. absurd (omega arith)) (ap lastByte (t .1) ∙ last-of (t .0 .path) endByte) in
+          let D = literal-path n l .0 .first in
+          let long = ap length (t .1) ∙ length-append (t .0 .first .path) (endByte ∷ []) in
+          let w = closed-path (take n pattern) (D .path) (D .more) (D .is-path) (D .goes-on) (λ z. absurd (omega arith)) (ap lastByte (t .1) ∙ last-of (t .0 .first .path) endByte) in
           absurd (omega (arith, ap length w ∙ length-append (D .path) (endByte ∷ []), length-take-le n pattern (omega (arith, h .in-pattern)), literal-path n l .1))
 
   -- the answer by comparing

@@ -12,14 +12,18 @@ use Rattle.matcher.specs.Form.{formedPath, patternForm, isFine}
 use Rattle.matcher.specs.declared.reach.Answer.{Answer}
 use Rattle.matcher.specs.declared.reach.Answer.the-variants.{Match, Mismatch, Incomplete}
 
--- the bytes known are the first of a formed path, of any length, with its end byte, and the path fits the pattern, which is formed
-pub record Continued (pattern known : List ℕ) : Type 0 where
-  pub is-pattern : isFine (patternForm pattern) ≡ true
+-- the bytes known are the first of a formed path, of any length, with its end byte
+pub record FirstBytes (known : List ℕ) : Type 0 where
   pub path : List ℕ
   pub is-path : formedPath path ≡ true
   pub more : List ℕ
   pub goes-on : known ++ more ≡ path ++ (endByte ∷ [])
-  pub fits : fitsPath pattern path ≡ true
+
+-- and the path fits the pattern, which is formed
+pub record Continued (pattern known : List ℕ) : Type 0 where
+  pub is-pattern : isFine (patternForm pattern) ≡ true
+  pub first : FirstBytes known
+  pub fits : fitsPath pattern (first .path) ≡ true
 
 -- the last byte known is the end byte
 abbrev pub ended : List ℕ → Bool
@@ -27,6 +31,6 @@ ended known = not (none known) && eqb (getD known (length known - 1) 0) endByte
 
 -- match: a path that matches is known whole. Incomplete: the end byte is not known yet, and some path matches. Mismatch: none does
 abbrev pub Told : List ℕ → List ℕ → Answer → Type 0
-Told pattern known Match = (C : Continued pattern known) × (known ≡ C .path ++ (endByte ∷ []))
+Told pattern known Match = (C : Continued pattern known) × (known ≡ C .first .path ++ (endByte ∷ []))
 Told pattern known Incomplete = Continued pattern known × (ended known ≡ false)
 Told pattern known Mismatch = Continued pattern known → ⊥

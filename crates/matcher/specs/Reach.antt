@@ -21,21 +21,18 @@ use Rattle.matcher.specs.declared.reach.Answer.the-variants.{Match, Mism
 abbrev pub beginsPath : List ℕ → Bool
 beginsPath known = none known || (eqb (getD known 0 0) slash && apart slash known)
 
--- with the end byte the path is whole, and matches or does not
-abbrev pub reachWhole : List ℕ → List ℕ → Answer
-reachWhole pattern path = cond (formedPath path && fitsPath pattern path) Match Mismatch
+-- bytes that are the first of a path with its end byte: with that byte the path is whole, without it the path goes on
+abbrev pub isFirst : List ℕ → Bool
+isFirst known = cond (ended known) (formedPath (take (length known - 1) known)) (beginsPath known)
 
--- without it the path goes on
-abbrev pub reachOpen : List ℕ → List ℕ → Answer
-reachOpen pattern known = cond (beginsPath known && beginsLabels (labelsOf pattern) (labelsOf known)) Incomplete Mismatch
+-- the answer by the labels alone: a whole path matches or does not
+abbrev pub reachLabels : List ℕ → List ℕ → Answer
+reachLabels pattern known =
+    cond (ended known) (cond (fitsPath pattern (take (length known - 1) known)) Match Mismatch) (cond (beginsLabels (labelsOf pattern) (labelsOf known)) Incomplete Mismatch)
 
--- the answer by the labels of a pattern
-abbrev pub reachFormed : List ℕ → List ℕ → Answer
-reachFormed pattern known = cond (ended known) (reachWhole pattern (take (length known - 1) known)) (reachOpen pattern known)
-
--- the answer; for a pattern that is not formed it is a mismatch
+-- the answer; for a pattern that is not formed, and for bytes that begin no path, it is a mismatch
 unfoldable pub reachOf : List ℕ → List ℕ → Answer
-reachOf pattern known = cond (isFine (patternForm pattern)) (reachFormed pattern known) Mismatch
+reachOf pattern known = cond (isFine (patternForm pattern) && isFirst known) (reachLabels pattern known) Mismatch
 
 -- the answer is not a mismatch: a child is entered where this holds of the bytes known at its parent with the branching byte added
 abbrev pub goesOn : Answer → Bool

@@ -65,7 +65,7 @@ pub(crate) fn begins_path(known: &[u8]) -> bool
     }
     if known[0] == SLASH {
         if known.len() == 1 {
-            return true; // as at the root of most tries: no table is needed
+            return true; // no table is needed
         }
         let marks = LABEL_BYTES;
         return are_apart(&marks, known, SLASH);

@@ -12,8 +12,8 @@ ghost use mathlib.Core.Bool.{true};
 ghost use Prim.Native.Nat.{ℕ};
 ghost use mathlib.Core.List.{List};
 ghost use Rattle.matcher.specs.Form.{patternForm, isFine};
-ghost use Rattle.matcher.specs.Continued.{ended};
-ghost use Rattle.matcher.specs.Reach.{reachWhole, reachOpen, reachFormed, reachOf, LiteralPrefix, Reached, RuledOut, OneLeads};
+ghost use Rattle.matcher.specs.Continued.{ended, FirstBytes};
+ghost use Rattle.matcher.specs.Reach.{isFirst, reachLabels, reachOf, LiteralPrefix, Reached, RuledOut, OneLeads};
 
 // How many bytes of a pattern does every path that fits it begin with?
 pub use glob::prefix::literal_prefix;
@@ -23,32 +23,6 @@ pub enum Answer {
     Match,
     Mismatch,
     Incomplete,
-}
-
-// The path is known whole. Most paths fail at the first label: that is tested before their form.
-fn reach_whole(pattern: &[u8], path: &[u8]) -> Answer
-    ensures { λ r. ⌜ r ≡ reachWhole (now (pattern .entry)) (now (path .entry)) ⌝ }
-{
-    if !fits_formed(pattern, path) {
-        return Answer::Mismatch; // it does not fit
-    }
-    if is_path(path) {
-        return Answer::Match;
-    }
-    Answer::Mismatch // it is no path
-}
-
-// The path goes on.
-fn reach_open(pattern: &[u8], known: &[u8]) -> Answer
-    ensures { λ r. ⌜ r ≡ reachOpen (now (pattern .entry)) (now (known .entry)) ⌝ }
-{
-    if !begins_formed(pattern, known) {
-        return Answer::Mismatch; // however it goes on
-    }
-    if begins_path(known) {
-        return Answer::Incomplete;
-    }
-    Answer::Mismatch // no path begins so
 }
 
 // Is the last byte known the end byte?
@@ -62,23 +36,37 @@ fn is_ended(known: &[u8]) -> bool
     known[n - 1] == END
 }
 
-// The answer without a check of the pattern: for `reach_from`, whose caller checks its pattern once and then asks at every child. For a pattern that
-// is formed it is the answer of `reach`; of any other bytes it answers by their labels, which begin at the first `/`.
-pub fn reach_formed(pattern: &[u8], known: &[u8]) -> Answer
-    ensures { λ r. ⌜ r ≡ reachFormed (now (pattern .entry)) (now (known .entry)) ⌝ }
-    ensures { λ r. ⌜ (isFine (patternForm (now (pattern .entry))) ≡ true → Reached (now (pattern .entry)) (now (known .entry)) r) ⌝ }
+// Do the bytes known begin a path, or are they a path and its end byte?
+fn is_first(known: &[u8]) -> bool
+    ensures { λ r. ⌜ r ≡ isFirst (now (known .entry)) ⌝ }
 {
     if is_ended(known) {
-        return reach_whole(pattern, &known[0..known.len() - 1]);
+        return is_path(&known[0..known.len() - 1]);
     }
-    reach_open(pattern, known)
+    begins_path(known)
 }
 
-// The same for a search, which knows `literal` bytes of the pattern such that every path that fits begins with them: bytes that are no more are only
-// compared with these.
+// The answer by labels alone: of a formed pattern and the first bytes of a path it is the answer of `reach`.
+fn reach_labels(pattern: &[u8], known: &[u8]) -> Answer
+    ensures { λ r. ⌜ r ≡ reachLabels (now (pattern .entry)) (now (known .entry)) ⌝ }
+{
+    if is_ended(known) {
+        if fits_formed(pattern, &known[0..known.len() - 1]) {
+            return Answer::Match;
+        }
+        return Answer::Mismatch; // it does not fit
+    }
+    if begins_formed(pattern, known) {
+        return Answer::Incomplete;
+    }
+    Answer::Mismatch // however it goes on
+}
+
+// The answer for a search, which checks its pattern once and asks of the first bytes of paths: their form is not looked at again. `literal` bytes of the
+// pattern are such that every path that fits begins with them: bytes that are no more are only compared with these.
 pub fn reach_from(pattern: &[u8], literal: usize, known: &[u8]) -> Answer
     ensures { λ r.
-        ⌜ (isFine (patternForm (now (pattern .entry))) ≡ true → LiteralPrefix (now (pattern .entry)) literal → r ≡ reachOf (now (pattern .entry)) (now (known .entry))) ⌝ }
+        ⌜ (isFine (patternForm (now (pattern .entry))) ≡ true → LiteralPrefix (now (pattern .entry)) literal → FirstBytes (now (known .entry)) → r ≡ reachOf (now (pattern .entry)) (now (known .entry))) ⌝ }
 {
     if known.len() <= literal {
         if literal <= pattern.len() {
@@ -88,7 +76,7 @@ pub fn reach_from(pattern: &[u8], literal: usize, known: &[u8]) -> Answer
             return Answer::Incomplete; // any does
         }
     }
-    reach_formed(pattern, known)
+    reach_labels(pattern, known)
 }
 
 // Can a path whose first bytes, the end byte possibly among them, are `known` match the pattern? A pattern that is not
@@ -97,9 +85,12 @@ pub fn reach(pattern: &[u8], known: &[u8]) -> Answer
     ensures { λ r. ⌜ Reached (now (pattern .entry)) (now (known .entry)) r ⌝ }
 {
     if is_fine(check_pattern(pattern)) {
-        return reach_formed(pattern, known);
+        if is_first(known) {
+            return reach_labels(pattern, known);
+        }
+        return Answer::Mismatch; // no path begins so
     }
-    Answer::Mismatch
+    Answer::Mismatch // it is no pattern
 }
 
 // Are the bytes s, behind p bytes of a path, a mismatch whatever those are? `literal` bytes of the pattern are such that every path that fits begins with

@@ -1,5 +1,5 @@
 -- The turns of a loop of a search: rows put and nodes counted so far, and what is left; and the turns over suffixes. Assumes nothing.
-use mathlib.Core.Path.{_≡_, refl, sym, ap, _∙_}
+use mathlib.Core.Path.{_≡_, refl, sym, ap, subst, _∙_}
 use mathlib.Core.Bool.{Bool, true, false, cond}
 use Prim.Native.Nat.{ℕ, _+_, _*_, _≤_}
 use mathlib.Core.List.{List, [], _∷_, _++_, append-assoc, append-nil, map}
@@ -7,13 +7,13 @@ use native.Mathlib.Omega.{arith}
 use lib.ListN.{length, take}
 use lib.Dec.{ltb}
 use Rattle.buffer.specs.Lists.{All, pick}
-use Rattle.buffer.specs.Splice.{splice}
-use Rattle.buffer.proofs.Lists.{pick-append}
-use Rattle.buffer.proofs.Tests.{and-left}
-use Rattle.rows.specs.Sizes.{rowSize}
+use Rattle.buffer.specs.Splice.{region, splice}
+use Rattle.buffer.proofs.Lists.{all-head, all-tail, pick-append}
+use Rattle.matcher.specs.Continued.{FirstBytes}
+use Rattle.rows.specs.Sizes.{rowSize, pathAt}
 use Rattle.trie_theory.specs.Forest.{Strings, Key, under}
 use Rattle.trie_theory.specs.Strings.{at}
-use Rattle.entries.specs.Query.{Query, wants}
+use Rattle.entries.specs.Query.{Query}
 use Rattle.trie_read.specs.Shape.{part, Fixed}
 use Rattle.trie_read.specs.Suffixes.{suffixesBytes, tailOf}
 use Rattle.trie_read.specs.declared.suffixes.Tail.{Tail}
@@ -25,7 +25,8 @@ pub use Rattle.gather.proofs.Filling.{length-row}
 use Rattle.gather.proofs.Putting.{put-none, put-then, put-one}
 use Rattle.gather.proofs.Splitting.{pick-one, pick-not, seen-key}
 use Rattle.search.specs.Steps.{takes, keyRow, Taken}
-use Rattle.search.specs.Searches.{Searched, SuffixesFound}
+use Rattle.search.specs.Searches.{OfPath, Searched, SuffixesFound}
+use Rattle.search.proofs.Steps.{key-path}
 
 -- ---- a loop
 
@@ -127,16 +128,15 @@ searched-none kept h =
 
 -- ---- suffixes
 
-takes-slot : (q : Query) (x : Key) → takes q x ≡ true → hasSlot x ≡ true
-unfolding takes
-takes-slot q x h = and-left (hasSlot x) (wants q x) h
+-- one key of a path: what is found of it
+abbrev OneKey : Query → Key → List Key → ℕ → Type 0
+OneKey q x ks e = OfPath x × (ks ≡ pick (takes q) (x ∷ [])) × (e ≡ 0)
 
--- one key: its row is written, if there is room
-pub searched-one : {v p room n c : ℕ} {k k' : List ℕ} (q : Query) (x : Key) (s s' : List ℕ) → takes q x ≡ true → room * rowSize ≤ length s
-    → s' ≡ cond (ltb n room) (splice s (0 + n * rowSize) (keyRow x)) s → known v p k' ≡ known v p k
-    → Searched (λ ks e. (ks ≡ pick (takes q) (x ∷ [])) × (e ≡ 0)) v p room n c s k s' k' (n + 1) c
-searched-one {room = room} {n = n} q x s s' t fits is kept =
-    let one = put-one keyRow rowSize length-row 0 room n s s' x (takes-slot q x t) (omega arith) is kept in
+-- its row is written, if there is room
+pub searched-one : {v p room n c : ℕ} {k k' : List ℕ} (q : Query) (x : Key) (s s' : List ℕ) → hasSlot x ≡ true → (OfPath x → takes q x ≡ true) → room * rowSize ≤ length s
+    → s' ≡ cond (ltb n room) (splice s (0 + n * rowSize) (keyRow x)) s → known v p k' ≡ known v p k → Searched (OneKey q x) v p room n c s k s' k' (n + 1) c
+searched-one {room = room} {n = n} q x s s' slot t fits is kept =
+    let one = put-one keyRow rowSize length-row 0 room n s s' x slot (omega arith) is kept in
     record {
       rows = record {
         put = one .put;
@@ -150,7 +150,7 @@ searched-one {room = room} {n = n} q x s s' t fits is kept =
       };
       nodes = 0;
       count = omega arith;
-      are = λ ks e a. (one .are ks (a .0 ∙ pick-one (takes q) x t), sym (a .1));
+      are = λ ks e a. (one .are ks (a .1 ∙ pick-one (takes q) x (t (a .0))), sym (a .2));
     }
 
 none-taken : (q : Query) (k : Strings) (ts : List Key) → ts ≡ [] → pick (takes q) (map (under k) ts) ≡ []
@@ -165,16 +165,17 @@ module _ {q : Query} {k : Strings} {t : List ℕ} {r : Tail} (is : (us : List Ke
   suffixes-bad z ks e s = absurd (tail-good (s .suffixes) (sym z ∙ is (s .suffixes) (s .fixed) (s .bytes)))
 
   pub suffixes-split : (path next : ℕ) → r ≡ At path next → (ks : List Key) (e : ℕ) → SuffixesFound q k t ks e
-      → Parts (λ xs a. (xs ≡ pick (takes q) (suffixKey k t path next ∷ [])) × (a ≡ 0)) (SuffixesFound q k (part next (length t) t)) ks e
+      → Parts (OneKey q (suffixKey k t path next)) (SuffixesFound q k (part next (length t) t)) ks e
   suffixes-split path next z ks e s =
       let v = tail-at t (s .suffixes) path next (s .fixed) (s .bytes) (sym z ∙ is (s .suffixes) (s .fixed) (s .bytes)) in
+      let paths : All OfPath (under k (v .t) ∷ map (under k) (v .others)) = subst (λ (us : List Key). All OfPath (map (under k) us)) (v .is) (s .paths) in
       record {
         first = pick (takes q) (suffixKey k t path next ∷ []);
         second = pick (takes q) (map (under k) (v .others));
         before = 0;
         behind = 0;
-        one = (refl, refl);
-        other = record { suffixes = v .others; fixed = v .fixed; bytes = v .places .rest-is; is = refl; entered = refl };
+        one = (subst (λ (x : Key). OfPath (under k x)) (sym (seen-key v)) (all-head paths), refl, refl);
+        other = record { suffixes = v .others; fixed = v .fixed; paths = all-tail paths; bytes = v .places .rest-is; is = refl; entered = refl };
         is =
             s .is
             ∙ ap (λ (us : List Key). pick (takes q) (map (under k) us)) (v .is)
@@ -189,17 +190,20 @@ module _ {Has : List Key → ℕ → Type 0} {q : Query} {v p room n c : ℕ} {s
   now-key : suffixKey (known v p k) t path next ≡ suffixKey (known v p k₀) t path next
   now-key = ap (λ (y : Strings). suffixKey y t path next) (l .rows .kept)
 
+  now-path : OfPath (suffixKey (known v p k₀) t path next) → FirstBytes (region k pathAt p ++ part path next t)
+  now-path f = subst FirstBytes (ap (λ (x : Key). at 1 (x .strings)) (sym now-key) ∙ key-path v p k t path next) f
+
   pub suffixes-put : (s' : List ℕ) → room * rowSize ≤ length s → b ≡ true → s' ≡ cond (ltb m room) (splice s (0 + m * rowSize) (take rowSize k')) s
       → Finding Has (SuffixesFound q (known v p k₀) (part next (length t) t)) v p room n c s₀ k₀ s' k' (m + 1) d
   unfolding keyRow
   suffixes-put s' fits y w =
       let x = suffixKey (known v p k₀) t path next in
-      let has : takes q x ≡ true = ap (takes q) (sym now-key) ∙ sym (taken .is) ∙ y in
+      let has : OfPath x → takes q x ≡ true = λ f. ap (takes q) (sym now-key) ∙ sym (taken .is (now-path f)) ∙ y in
       let row : take rowSize k' ≡ keyRow x = ap (take rowSize) (taken .slot y ∙ ap keySlot now-key) in
-      finding-on l (searched-one q x s s' has fits (rw row at w) (taken .kept)) (suffixes-split is path next e)
+      finding-on l (searched-one q x s s' (ap hasSlot (sym now-key) ∙ taken .fits y) has fits (rw row at w) (taken .kept)) (suffixes-split is path next e)
 
   pub suffixes-pass : b ≡ false → Finding Has (SuffixesFound q (known v p k₀) (part next (length t) t)) v p room n c s₀ k₀ s k' m d
   suffixes-pass y =
       let x = suffixKey (known v p k₀) t path next in
-      let has : takes q x ≡ false = ap (takes q) (sym now-key) ∙ sym (taken .is) ∙ y in
-      finding-on l (searched-none (taken .kept) (λ ks a h. (h .0 ∙ pick-not (takes q) x has, h .1))) (suffixes-split is path next e)
+      let has : OfPath x → takes q x ≡ false = λ f. ap (takes q) (sym now-key) ∙ sym (taken .is (now-path f)) ∙ y in
+      finding-on l (searched-none {Has = OneKey q x} (taken .kept) (λ ks a h. (h .1 ∙ pick-not (takes q) x (has (h .0)), h .2))) (suffixes-split is path next e)

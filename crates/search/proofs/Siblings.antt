@@ -1,5 +1,5 @@
 -- The turns over siblings: what a search finds in tries is what it finds below the first node, if it enters it, and then in the others. Assumes nothing.
-use mathlib.Core.Path.{_≡_, refl, sym, ap, _∙_}
+use mathlib.Core.Path.{_≡_, refl, sym, ap, subst, _∙_}
 use mathlib.Core.Bool.{Bool, true, false, _&&_}
 use mathlib.Core.Logic.{⊎-elim}
 use Prim.Native.Nat.{ℕ, suc, _+_, _-_, _≤_, _<_}
@@ -11,11 +11,12 @@ use lib.Seq.{length-take-le}
 use borrow.Author.Tests.{le-leb, ne-eqb}
 use Rattle.buffer.specs.Lists.{All, nil, cons, pick}
 use Rattle.buffer.specs.Splice.{region}
-use Rattle.buffer.proofs.Lists.{all-imp, all-both}
+use Rattle.buffer.proofs.Lists.{all-imp, all-both, all-left, all-right}
 use Rattle.buffer.proofs.Splice.{length-region}
 use Rattle.buffer.proofs.Tests.{and-right, and-both, not-both}
+use Rattle.matcher.specs.Continued.{FirstBytes}
 use Rattle.rows.specs.Sizes.{valueSize, pathAt}
-use Rattle.trie_theory.specs.Forest.{Strings, Key, Forest, none, leaf, inner, join, under, tops}
+use Rattle.trie_theory.specs.Forest.{Strings, Key, Forest, none, leaf, inner, join, under, keys, tops}
 use Rattle.trie_theory.specs.Strings.{at}
 use Rattle.trie_theory.specs.Dimensions.{Above, below, branching}
 use Rattle.trie_theory.specs.Sound.{Node, Sound, Starts}
@@ -36,7 +37,8 @@ use Rattle.gather.specs.KeySlots.{endedLimit, known}
 use Rattle.gather.proofs.Filling.{known-less}
 use Rattle.gather.proofs.Splitting.{leaf-high, inner-high}
 use Rattle.search.specs.Steps.{rootKind, over, takes, OneByte, Descended}
-use Rattle.search.specs.Searches.{Searched, SuffixesFound, TriesFound, BodyFound, Short, NodesFit}
+use Rattle.search.specs.Searches.{OfPath, Searched, SuffixesFound, TriesFound, BodyFound, Short, AtNode, NodesFit}
+use Rattle.search.proofs.Steps.{node-path}
 use Rattle.search.proofs.Finding.{Finding, finding-on, finding-less, finding-end, Parts, searched-none}
 
 -- ---- tries
@@ -101,13 +103,21 @@ inner-sound : (above : Above) (d : ℕ) (s : Strings) (children more : Forest) �
 unfolding Sound
 inner-sound above d s children more h = (h .0, h .2, h .3)
 
-leaf-roomy : (k s : Strings) (ts : List Key) (more : Forest) → NodesFit k (leaf s ts more) → Short (join k s) × NodesFit k more
+leaf-roomy : (k s : Strings) (ts : List Key) (more : Forest) → NodesFit k (leaf s ts more) → AtNode (join k s) × NodesFit k more
 unfolding NodesFit
 leaf-roomy k s ts more r = r
 
-inner-roomy : (k s : Strings) (d : ℕ) (children more : Forest) → NodesFit k (inner d s children more) → Short (join k s) × NodesFit (join k s) children × NodesFit k more
+inner-roomy : (k s : Strings) (d : ℕ) (children more : Forest) → NodesFit k (inner d s children more) → AtNode (join k s) × NodesFit (join k s) children × NodesFit k more
 unfolding NodesFit
 inner-roomy k s d children more r = r
+
+leaf-paths : (k s : Strings) (ts : List Key) (more : Forest) → All OfPath (keys k (leaf s ts more)) → All OfPath (map (under (join k s)) ts) × All OfPath (keys k more)
+unfolding keys
+leaf-paths k s ts more a = (all-left (map (under (join k s)) ts) (keys k more) a, all-right (map (under (join k s)) ts) (keys k more) a)
+
+inner-paths : (k s : Strings) (d : ℕ) (children more : Forest) → All OfPath (keys k (inner d s children more)) → All OfPath (keys (join k s) children) × All OfPath (keys k more)
+unfolding keys
+inner-paths k s d children more a = (all-left (keys (join k s) children) (keys k more) a, all-right (keys (join k s) children) (keys k more) a)
 
 -- a node's kind is a byte
 over-inner : (kind d : ℕ) → kind ≡ suc d → kind < rootKind → over kind ≡ below d
@@ -116,21 +126,22 @@ over-inner kind d e h =
     let n : kind - 1 ≡ d = omega arith in
     rw (ne-eqb kind rootKind (λ z. omega arith), n)
 
--- the siblings behind a node with the strings s
+-- the siblings behind a node with the strings s that is entered
 pub record Later (q : Query) (above : Above) (depth : ℕ) (k s : Strings) (t : List ℕ) (ks : List Key) (e : ℕ) : Type 0 where
   pub found : TriesFound q above depth k t ks e
   pub node : Node 2 above s (found .tries)
+  pub entered : enters (reaches q) above k s ≡ true
 
 -- where one branching byte alone leads on, the node that is entered has it, and no later one
-module _ {q : Query} {above : Above} {k : Strings} (one : OneByte q above k) (s : Strings) (entered : enters (reaches q) above k s ≡ true) where
-  its-byte : length s ≡ 2 → Starts above s → branching above s ≡ one .byte
-  its-byte two starts =
+module _ {q : Query} {above : Above} {k : Strings} (one : OneByte q above k) (s : Strings) where
+  its-byte : enters (reaches q) above k s ≡ true → length s ≡ 2 → Starts above s → branching above s ≡ one .byte
+  its-byte entered two starts =
       ⊎-elim (λ (e : branching above s ≡ one .byte). e) (λ (n : branching above s ≡ one .byte → ⊥). not-both entered (one .others s two starts n)) (same? (branching above s) (one .byte))
 
   none-later : {depth : ℕ} {t : List ℕ} (ks : List Key) (e : ℕ) → Later q above depth k s t ks e → (ks ≡ []) × (e ≡ 0)
   none-later ks e h =
       let f = h .found in
-      let b = its-byte (h .node .wide) (h .node .starts) in
+      let b = its-byte (h .entered) (h .node .wide) (h .node .starts) in
       let n = none-in (reaches q) (takes q) above k (f .tries)
       (all-imp (λ x y. one .others x (y .0 .0) (y .0 .1) (λ z. y .1 (b ∙ sym z))) (all-both (tops-sound above (f .tries) (f .sound)) (h .node .apart))) in
       (f .is ∙ n .0, f .entered ∙ n .1)
@@ -152,7 +163,7 @@ module _ {q : Query} {above : Above} {depth : ℕ} {k : Strings} {t : List ℕ} 
 
   module _ (kind path start next : ℕ) (z : r ≡ Head.Node kind path start next) where
     -- the strings have room
-    pub tries-short : (ks : List Key) (e : ℕ) → TriesFound q above depth k t ks e → Short (join k (part 7 path t ∷ part path start t ∷ []))
+    pub tries-short : (ks : List Key) (e : ℕ) → TriesFound q above depth k t ks e → AtNode (join k (part 7 path t ∷ part path start t ∷ []))
     tries-short ks e s =
         let h = sym z ∙ is (s .tries) (s .regular) (s .bytes) in
         ⊎-elim
@@ -172,6 +183,7 @@ module _ {q : Query} {above : Above} {depth : ℕ} {k : Strings} {t : List ℕ} 
         let n = strings-are (w .places) (w .wide) in
         let f = leaf-in (reaches q) (takes q) above k (w .strings) (w .more) (w .suffixes) (rw n at y) in
         let u = leaf-sound above (w .strings) (w .suffixes) (w .more) (rw (w .is) at (s .sound)) in
+        let g = leaf-paths k (w .strings) (w .suffixes) (w .more) (rw (w .is) at (s .paths)) in
         record {
           first = pick (takes q) (map (under (join k (w .strings))) (w .suffixes));
           second = found (reaches q) (takes q) above k (w .more);
@@ -179,7 +191,7 @@ module _ {q : Query} {above : Above} {depth : ℕ} {k : Strings} {t : List ℕ} 
           behind = nodesEntered (reaches q) above k (w .more);
           one = record {
             below = 0;
-            has = record { leaf = λ x. rw n record { suffixes = w .suffixes; fixed = w .fixed; bytes = w .places .body-is; is = refl; entered = refl }; inner = λ x. absurd (x o) };
+            has = record { leaf = λ x. rw n record { suffixes = w .suffixes; fixed = w .fixed; paths = g .0; bytes = w .places .body-is; is = refl; entered = refl }; inner = λ x. absurd (x o) };
             is = refl;
           };
           other = record {
@@ -189,11 +201,13 @@ module _ {q : Query} {above : Above} {depth : ℕ} {k : Strings} {t : List ℕ} 
               sound = u .1;
               high = leaf-high depth (w .strings) (w .suffixes) (w .more) (rw (w .is) at (s .high));
               nodes-fit = leaf-roomy k (w .strings) (w .suffixes) (w .more) (rw (w .is) at (s .nodes-fit)) .1;
+              paths = g .1;
               bytes = w .places .rest-is;
               is = refl;
               entered = refl;
             };
             node = rw n (u .0);
+            entered = y;
           };
           is = s .is ∙ ap (found (reaches q) (takes q) above k) (w .is) ∙ f .0;
           sum = s .entered ∙ ap (nodesEntered (reaches q) above k) (w .is) ∙ f .1;
@@ -206,6 +220,7 @@ module _ {q : Query} {above : Above} {depth : ℕ} {k : Strings} {t : List ℕ} 
         let m = inner-roomy k (w .strings) (w .dimension) (w .children) (w .more) (rw (w .is) at (s .nodes-fit)) in
         let a : over kind ≡ below (w .dimension) = over-inner kind (w .dimension) (w .branches) byte in
         let u = inner-sound above (w .dimension) (w .strings) (w .children) (w .more) (rw (w .is) at (s .sound)) in
+        let g = inner-paths k (w .strings) (w .dimension) (w .children) (w .more) (rw (w .is) at (s .paths)) in
         record {
           first = found (reaches q) (takes q) (below (w .dimension)) (join k (w .strings)) (w .children);
           second = found (reaches q) (takes q) above k (w .more);
@@ -215,13 +230,14 @@ module _ {q : Query} {above : Above} {depth : ℕ} {k : Strings} {t : List ℕ} 
             below = nodesEntered (reaches q) (below (w .dimension)) (join k (w .strings)) (w .children);
             has = record {
               leaf = λ x. absurd (o x);
-              inner = λ x. rw (n, a) record { tries = w .children; regular = w .lower; sound = u .1; high = i .0; nodes-fit = m .1; bytes = w .places .body-is; is = refl; entered = refl };
+              inner = λ x. rw (n, a) record { tries = w .children; regular = w .lower; sound = u .1; high = i .0; nodes-fit = m .1; paths = g .0; bytes = w .places .body-is; is = refl; entered = refl };
             };
             is = refl;
           };
           other = record {
-            found = record { tries = w .more; regular = w .shaped; sound = u .2; high = i .1; nodes-fit = m .2; bytes = w .places .rest-is; is = refl; entered = refl };
+            found = record { tries = w .more; regular = w .shaped; sound = u .2; high = i .1; nodes-fit = m .2; paths = g .1; bytes = w .places .rest-is; is = refl; entered = refl };
             node = rw n (u .0);
+            entered = y;
           };
           is = s .is ∙ ap (found (reaches q) (takes q) above k) (w .is) ∙ f .0;
           sum = s .entered ∙ ap (nodesEntered (reaches q) above k) (w .is) ∙ f .1;
@@ -237,12 +253,14 @@ module _ {q : Query} {above : Above} {depth : ℕ} {k : Strings} {t : List ℕ} 
         let w = leaf-view kind path start next t (s .tries) (s .regular) (s .bytes) h o in
         let f = leaf-out (reaches q) (takes q) above k (w .strings) (w .more) (w .suffixes) (rw (strings-are (w .places) (w .wide)) at y) in
         let u = leaf-sound above (w .strings) (w .suffixes) (w .more) (rw (w .is) at (s .sound)) in
+        let g = leaf-paths k (w .strings) (w .suffixes) (w .more) (rw (w .is) at (s .paths)) in
         record {
           tries = w .more;
           regular = w .shaped;
           sound = u .1;
           high = leaf-high depth (w .strings) (w .suffixes) (w .more) (rw (w .is) at (s .high));
           nodes-fit = leaf-roomy k (w .strings) (w .suffixes) (w .more) (rw (w .is) at (s .nodes-fit)) .1;
+          paths = g .1;
           bytes = w .places .rest-is;
           is = s .is ∙ ap (found (reaches q) (takes q) above k) (w .is) ∙ f .0;
           entered = s .entered ∙ ap (nodesEntered (reaches q) above k) (w .is) ∙ f .1;
@@ -251,12 +269,14 @@ module _ {q : Query} {above : Above} {depth : ℕ} {k : Strings} {t : List ℕ} 
         let w = inner-view kind path start next t (s .tries) (s .regular) (s .bytes) h o in
         let f = inner-out (reaches q) (takes q) above k (w .strings) (w .more) (w .dimension) (w .children) (rw (strings-are (w .places) (w .wide)) at y) in
         let u = inner-sound above (w .dimension) (w .strings) (w .children) (w .more) (rw (w .is) at (s .sound)) in
+        let g = inner-paths k (w .strings) (w .dimension) (w .children) (w .more) (rw (w .is) at (s .paths)) in
         record {
           tries = w .more;
           regular = w .shaped;
           sound = u .2;
           high = inner-high depth (w .dimension) (w .strings) (w .children) (w .more) (rw (w .is) at (s .high)) .1;
           nodes-fit = inner-roomy k (w .strings) (w .dimension) (w .children) (w .more) (rw (w .is) at (s .nodes-fit)) .2;
+          paths = g .1;
           bytes = w .places .rest-is;
           is = s .is ∙ ap (found (reaches q) (takes q) above k) (w .is) ∙ f .0;
           entered = s .entered ∙ ap (nodesEntered (reaches q) above k) (w .is) ∙ f .1;
@@ -288,8 +308,12 @@ module _ {Has : List Key → ℕ → Type 0} {q : Query} {kind depth v p room n 
   room? = leb (v + (path - 7)) valueSize && leb (p + (start - path)) endedLimit
 
   -- the node is entered
-  entered-now : b ≡ true → enters (reaches q) (over kind) (known v p k₀) (part 7 path t ∷ part path start t ∷ []) ≡ true
-  entered-now y = sym enters-now ∙ and-right room? _ (sym (down .is) ∙ y)
+  now-first : AtNode (join (known v p k₀) (part 7 path t ∷ part path start t ∷ [])) → FirstBytes (region k pathAt p ++ part path start t)
+  now-first h =
+      subst FirstBytes (ap (λ (y : Strings). at 1 (join y (part 7 path t ∷ part path start t ∷ []))) (sym (l .rows .kept)) ∙ node-path v p k (part 7 path t) (part path start t)) (h .1)
+
+  entered-now : b ≡ true → AtNode (join (known v p k₀) (part 7 path t ∷ part path start t ∷ [])) → enters (reaches q) (over kind) (known v p k₀) (part 7 path t ∷ part path start t ∷ []) ≡ true
+  entered-now y h = sym enters-now ∙ and-right room? _ (sym (down .is (now-first h)) ∙ y)
 
   -- what is found below it
   abbrev Lower : (s' k' : List ℕ) (m' d' : ℕ) → Type 0
@@ -316,7 +340,7 @@ module _ {Has : List Key → ℕ → Type 0} {q : Query} {kind depth v p room n 
         count = omega (arith, i .count);
         are = λ ks a o. let z = i .are ks (o .below) (rw below (o .has)) in (z .0, omega (arith, z .1, o .is));
       })
-      (tries-in is own path start next e byte (entered-now y))
+      (λ ks a h. tries-in is own path start next e byte (entered-now y (tries-short is own path start next e ks a h)) ks a h)
 
   pub siblings-in : {s' k' : List ℕ} {m' d' : ℕ} → own < rootKind → b ≡ true → Lower s' k' m' d'
       → Finding Has (TriesFound q (over kind) depth (known v p k₀) (part next (length t) t)) v p room n c s₀ k₀ s' k' m' d'
@@ -325,7 +349,7 @@ module _ {Has : List Key → ℕ → Type 0} {q : Query} {kind depth v p room n 
   -- and no other will be
   pub siblings-done : {s' k' : List ℕ} {m' d' : ℕ} → own < rootKind → b ≡ true → Lower s' k' m' d' → OneByte q (over kind) (known v p k₀)
       → Searched Has v p room n c s₀ k₀ s' k' m' d'
-  siblings-done byte y i one = finding-end (siblings-later byte y i) (none-later one (part 7 path t ∷ part path start t ∷ []) (entered-now y))
+  siblings-done byte y i one = finding-end (siblings-later byte y i) (none-later one (part 7 path t ∷ part path start t ∷ []))
 
   -- the node is passed: its strings have room, so a search does not enter it
   pub siblings-past : length k₀ ≡ slotSize → v ≤ valueSize → p ≤ endedLimit → path ≤ start → start ≤ length t → b ≡ false
@@ -346,11 +370,12 @@ module _ {Has : List Key → ℕ → Type 0} {q : Query} {kind depth v p room n 
       out : (ks : List Key) (a : ℕ) → TriesFound q (over kind) depth (known v p k₀) t ks a
           → enters (reaches q) (over kind) (known v p k₀) (part 7 path t ∷ part path start t ∷ []) ≡ false
       out ks a h =
-          let fits = short-room k₀ (part 7 path t) (part path start t) v p long lv lp (tries-short is own path start next e ks a h) in
+          let node = tries-short is own path start next e ks a h in
+          let fits = short-room k₀ (part 7 path t) (part path start t) v p long lv lp (node .0) in
           let value = length-part t 7 path (omega arith) in
           let rest = length-part t path start inside in
           let room : room? ≡ true = rw (← value, ← rest) fits in
-          sym enters-now ∙ sym (and-true room? _ room) ∙ sym (down .is) ∙ y
+          sym enters-now ∙ sym (and-true room? _ room) ∙ sym (down .is (now-first node)) ∙ y
 
 -- ---- a body
 

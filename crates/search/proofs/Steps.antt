@@ -1,8 +1,8 @@
 -- The steps of a search. Assumes nothing.
-use mathlib.Core.Path.{_≡_, refl, sym, ap, ap₂, _∙_}
+use mathlib.Core.Path.{_≡_, refl, sym, ap, ap₂, subst, _∙_}
 use mathlib.Core.Bool.{Bool, true, false, cond, _&&_, and-true}
 use Prim.Native.Nat.{ℕ, zero, suc, _+_, _-_, _≤_}
-use mathlib.Core.List.{List, [], _∷_, _++_, append-nil}
+use mathlib.Core.List.{List, [], _∷_, _++_, append-nil, append-assoc}
 use native.Mathlib.Omega.{arith}
 use lib.ListN.{length, take, drop}
 use lib.Dec.{eqb, leb, ltb}
@@ -10,7 +10,9 @@ use lib.Seq.{take-take}
 use borrow.Author.Tests.{eq-eqb, ne-eqb, ltb-true, ltb-false, leb-true}
 use Rattle.buffer.specs.Splice.{splice, region}
 use Rattle.buffer.proofs.Splice.{region-drop, region-add, region-before, region-at, take-before}
+use Rattle.matcher.specs.Continued.{FirstBytes}
 use Rattle.matcher.specs.Reach.{reachOf, goesOn}
+use Rattle.matcher.proofs.Firsts.{first-before}
 use Rattle.matcher.specs.declared.reach.Answer.{Answer}
 use Rattle.matcher.specs.declared.reach.Answer.the-variants.{Match, Mismatch, Incomplete}
 use Rattle.rows.specs.Sizes.{valueSize, pathAt}
@@ -117,6 +119,17 @@ module _ (q : Query) (kind v p : ℕ) (k a : List ℕ) where
       go (suc (suc (suc d))) z o r h e = enters-others q v p k a (part path body t) (part path end t) d r
           (ap (λ (i : ℕ). part path i t) (rw (ne-eqb (suc (suc (suc d))) 2 (λ y. omega arith)) at e) ∙ no-part t path)
 
+part-join : (t : List ℕ) (path end body : ℕ) → path ≤ end → end ≤ body → part path body t ≡ part path end t ++ part end body t
+part-join t path end body h l =
+    let sum : end - path + (body - end) ≡ body - path = omega arith in
+    let seam : path + (end - path) ≡ end = omega arith in
+    rw (sum, seam) at (region-add t path (end - path) (body - end))
+
+-- fewer of the first bytes of a path
+pub first-less : (k t : List ℕ) (path end body : ℕ) → path ≤ end → end ≤ body → FirstBytes (k ++ part path body t) → FirstBytes (k ++ part path end t)
+first-less k t path end body h l f =
+    first-before (k ++ part path end t) (part end body t) (subst FirstBytes (ap (λ (s : List ℕ). k ++ s) (part-join t path end body h l) ∙ sym (append-assoc k (part path end t) (part end body t))) f)
+
 -- ---- the step to a node
 
 -- the buffer with more of the path behind the known bytes
@@ -141,16 +154,17 @@ known-front v p k k' long long' h e =
 
 module _ {q : Query} {kind v p path body : ℕ} {t k k₁ : List ℕ} (kept : known v p k₁ ≡ known v p k) where
   pub descended : {k' : List ℕ} {r : Bool} → Entered v p t path body k₁ k' r
-      → true ≡ enters (reaches q) (over kind) (known v p k) (part 7 path t ∷ part path body t ∷ []) → Descended q kind v p t path body k k' r
+      → (FirstBytes (region k pathAt p ++ part path body t) → true ≡ enters (reaches q) (over kind) (known v p k) (part 7 path t ∷ part path body t ∷ [])) → Descended q kind v p t path body k k' r
   descended e y =
       record {
-        is = e .is ∙ rw (← y) (sym (and-true (leb (v + (path - 7)) valueSize && leb (p + (body - path)) endedLimit)));
+        room = λ z. sym (e .is) ∙ z;
+        is = λ f. e .is ∙ rw (← y f) (sym (and-true (leb (v + (path - 7)) valueSize && leb (p + (body - path)) endedLimit)));
         joins = λ z. e .joins z ∙ ap (λ (x : Strings). join x (part 7 path t ∷ part path body t ∷ [])) kept;
         kept = e .kept ∙ kept;
       }
 
-  pub not-descended : false ≡ enters (reaches q) (over kind) (known v p k) (part 7 path t ∷ part path body t ∷ []) → Descended q kind v p t path body k k₁ false
-  not-descended y = record { is = sym (and-false (leb (v + (path - 7)) valueSize && leb (p + (body - path)) endedLimit) _ (sym y)); joins = λ z. not-both z refl; kept = kept }
+  pub not-descended : (FirstBytes (region k pathAt p ++ part path body t) → false ≡ enters (reaches q) (over kind) (known v p k) (part 7 path t ∷ part path body t ∷ [])) → Descended q kind v p t path body k k₁ false
+  not-descended y = record { room = λ z. not-both z refl; is = λ f. sym (and-false (leb (v + (path - 7)) valueSize && leb (p + (body - path)) endedLimit) _ (sym (y f))); joins = λ z. not-both z refl; kept = kept }
 
 -- a node that a search goes down to has room
 pub descended-room : {q : Query} {kind v p path body : ℕ} {t k k' : List ℕ} {r : Bool} → Descended q kind v p t path body k k' r → r ≡ true
@@ -158,7 +172,7 @@ pub descended-room : {q : Query} {kind v p path body : ℕ} {t k k' : List ℕ} 
 descended-room {v = v} {p} {path} {body} e y =
     let a = leb (v + (path - 7)) valueSize in
     let b = leb (p + (body - path)) endedLimit in
-    let both = and-left (a && b) _ (sym (e .is) ∙ y) in
+    let both = e .room y in
     (leb-true (v + (path - 7)) valueSize (and-left a b both), leb-true (p + (body - path)) endedLimit (and-right a b both))
 
 -- ---- the step to a key
@@ -179,43 +193,54 @@ module _ (q : Query) (v p : ℕ) (b : List ℕ) (path next : ℕ) (k : List ℕ)
       let t = reachOf (q .pattern) (region k pathAt p ++ part path next b) in
       sym wants-both ∙ ap (λ (y : Answer). isMatch y && isMatch t) (sym e) ∙ sym (both-match a t) ∙ sym (ap isMatch f) ∙ sym g
 
-  taken-not : {k' : List ℕ} → hasSlot x && wants q x ≡ false → known v p k' ≡ known v p k → Taken q v p b path next k k' false
+  taken-not : {k' : List ℕ} → (FirstBytes (region k pathAt p ++ part path next b) → hasSlot x && wants q x ≡ false) → known v p k' ≡ known v p k → Taken q v p b path next k k' false
   unfolding takes
-  taken-not h e = record { is = sym h; slot = λ y. not-both y refl; kept = e }
+  taken-not h e = record { fits = λ y. not-both y refl; is = λ f. sym (h f); slot = λ y. not-both y refl; kept = e }
 
   -- there is no slot for so many bytes
   pub taken-none : (v + (path - 22) ≡ valueSize → p + (next - path) ≤ endedLimit → ⊥) → Taken q v p b path next k k false
   taken-none h =
       taken-not
-      (ap (λ (y : Bool). y && wants q x)
+      (λ f. ap (λ (y : Bool). y && wants q x)
       (unfilled k (part 22 path b) (part path next b) (part 2 22 b) v p long value ended
       (λ e l m. h (omega (arith, e, length-part b 22 path (omega arith))) (omega (arith, m, length-part b path next inside)))))
       refl
 
   module _ (k₁ : List ℕ) (same : known v p k₁ ≡ known v p k) where
     -- it does not match
-    pub taken-out : wants q x ≡ false → Taken q v p b path next k k₁ false
-    taken-out h = taken-not (and-false (hasSlot x) (wants q x) h) same
+    pub taken-out : (FirstBytes (region k pathAt p ++ part path next b) → wants q x ≡ false) → Taken q v p b path next k k₁ false
+    taken-out h = taken-not (λ f. and-false (hasSlot x) (wants q x) (h f)) same
 
     -- it matches, and has a slot or not
-    taken-in : {k' : List ℕ} → wants q x ≡ true → hasSlot x ≡ true → k' ≡ keySlot x → Taken q v p b path next k k' true
+    taken-in : {k' : List ℕ} → (FirstBytes (region k pathAt p ++ part path next b) → wants q x ≡ true) → hasSlot x ≡ true → k' ≡ keySlot x → Taken q v p b path next k k' true
     unfolding takes
     taken-in w h e =
         record {
-          is = sym (and-both h w);
+          fits = λ y. h;
+          is = λ f. sym (and-both h (w f));
           slot = λ y. e;
           kept = ap (known v p) e ∙ slot-kept k (part 22 path b) (part path next b) (part 2 22 b) v p long value ended h;
         }
 
-    pub taken-slot : (k' : List ℕ) (r : Bool) → wants q x ≡ true → r ≡ hasSlot (suffixKey (known v p k₁) b path next)
+    pub taken-slot : (k' : List ℕ) (r : Bool) → (FirstBytes (region k pathAt p ++ part path next b) → wants q x ≡ true) → r ≡ hasSlot (suffixKey (known v p k₁) b path next)
         → k' ≡ cond r (keySlot (suffixKey (known v p k₁) b path next)) k₁ → Taken q v p b path next k k' r
     taken-slot k' r w h e =
         let y : suffixKey (known v p k₁) b path next ≡ x = ap (λ (z : Strings). suffixKey z b path next) same in
         slotted-or r k' w (h ∙ ap hasSlot y) (e ∙ ap (λ (z : Key). cond r (keySlot z) k₁) y)
       where
-        slotted-or : (r : Bool) (k' : List ℕ) → wants q x ≡ true → r ≡ hasSlot x → k' ≡ cond r (keySlot x) k₁ → Taken q v p b path next k k' r
+        slotted-or : (r : Bool) (k' : List ℕ) → (FirstBytes (region k pathAt p ++ part path next b) → wants q x ≡ true) → r ≡ hasSlot x → k' ≡ cond r (keySlot x) k₁ → Taken q v p b path next k k' r
         slotted-or true k' w h e = taken-in w (sym h) e
-        slotted-or false k' w h e = taken-not (rw (← h)) (ap (known v p) e ∙ same)
+        slotted-or false k' w h e = taken-not (λ f. rw (← h)) (ap (known v p) e ∙ same)
+
+-- ---- the path known, in strings and in the buffer
+
+pub node-path : (v p : ℕ) (k a b : List ℕ) → at 1 (join (known v p k) (a ∷ b ∷ [])) ≡ region k pathAt p ++ b
+unfolding join known
+node-path v p k a b = refl
+
+pub key-path : (v p : ℕ) (k b : List ℕ) (path next : ℕ) → at 1 (suffixKey (known v p k) b path next .strings) ≡ region k pathAt p ++ part path next b
+unfolding under join known
+key-path v p k b path next = refl
 
 -- ---- what was asked once holds as long as what is known stays
 
@@ -224,7 +249,7 @@ unfolding known
 common-kept {q} {kind} {v} {p} {k} {k'} c e =
     let a : take v k' ≡ take v k = cc in
     let b : region k' pathAt p ≡ region k pathAt p = cc in
-    record { bytes = λ o l. rw a (c .bytes o l); other = λ z. rw (a, b) (c .other z); single = λ y. rw e (c .single y) }
+    record { bytes = λ o l. rw a (c .bytes o l); other = λ z f. rw (a, b) (c .other z (λ o. rw b at (f o))); single = λ y. rw e (c .single y) }
 
 pub span-kept : {q : Query} {n from to : ℕ} (v p : ℕ) (k k' : List ℕ) → Spans q (take v k) n from to → known v p k' ≡ known v p k → Spans q (take v k') n from to
 unfolding known

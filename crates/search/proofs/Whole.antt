@@ -1,61 +1,67 @@
 -- A sound trie whose keys have slots: its nodes have room, and what the walk finds is what a search of it finds. Assumes nothing.
-use mathlib.Core.Path.{_≡_, refl, sym, ap, ap₂, _∙_}
+use mathlib.Core.Path.{_≡_, refl, sym, ap, ap₂, subst, _∙_}
 use mathlib.Core.Bool.{Bool, true, cond}
 use Prim.Native.Nat.{ℕ, _+_, _≤_}
 use mathlib.Core.List.{List, [], _∷_, _++_, map}
 use native.Mathlib.Omega.{arith}
 use lib.ListN.{length}
-use Rattle.buffer.specs.Lists.{all, pick}
-use Rattle.buffer.proofs.Lists.{tested-left, tested-right}
+use Rattle.buffer.specs.Lists.{all, All, pick}
+use Rattle.buffer.proofs.Lists.{all-head, all-left, all-right, tested-left, tested-right}
 use Rattle.buffer.proofs.Tests.{and-left, and-right}
+use Rattle.matcher.specs.Continued.{FirstBytes}
+use Rattle.matcher.proofs.Firsts.{first-before}
 use Rattle.rows.specs.Sizes.{nodeLimit}
 use Rattle.trie_theory.specs.Forest.{Strings, Key, Forest, none, leaf, inner, join, under, keys, tops}
+use Rattle.trie_theory.specs.Strings.{at}
 use Rattle.trie_theory.specs.Dimensions.{Above, root, below}
 use Rattle.trie_theory.specs.Sound.{Sound}
 use Rattle.trie_theory.specs.Search.{enters, found, nodesEntered}
 use Rattle.trie_theory.specs.Encode.{Regular}
 use Rattle.entries.specs.Query.{Query, reaches, wants}
+use Rattle.trie_theory.proofs.Strings.{at-join}
 use Rattle.gather.specs.KeySlots.{hasSlot, known}
 use Rattle.gather.proofs.Filling.{slotted}
 pub use Rattle.gather.proofs.Filling.{entry-row}
 use Rattle.gather.proofs.Gathering.{known-nothing}
 use Rattle.gather.proofs.Splitting.{join-longer, blank, keys-root}
 use Rattle.search.specs.Steps.{rootKind, over, takes}
-use Rattle.search.specs.Searches.{Searched, TrieSearched, TrieFound, BodyFound, Short, NodesFit}
+use Rattle.search.specs.Searches.{OfPath, Searched, TrieSearched, TrieFound, BodyFound, AtNode, NodesFit}
 
 -- ---- room
 
-short-join : (k s : Strings) → Short (join k s) → Short k
-short-join k s h = (omega (arith, h .0, join-longer 0 k s), omega (arith, h .1, join-longer 1 k s))
+short-join : (k s : Strings) → AtNode (join k s) → AtNode k
+short-join k s h = ((omega (arith, h .0 .0, join-longer 0 k s), omega (arith, h .0 .1, join-longer 1 k s)), first-before (at 1 k) (at 1 s) (subst FirstBytes (at-join 1 k s) (h .1)))
 
-short-under : (k : Strings) (x : Key) → hasSlot (under k x) ≡ true → Short k
+short-under : (k : Strings) (x : Key) → hasSlot (under k x) ≡ true → OfPath (under k x) → AtNode k
 unfolding under
-short-under k x h = let w = slotted (under k x) h in short-join k (x .strings) (omega (arith, w .value), w .short)
+short-under k x h f = let w = slotted (under k x) h in short-join k (x .strings) ((omega (arith, w .value), w .short), f)
 
-short-leaf : (k : Strings) (ts : List Key) → 1 ≤ length ts → all hasSlot (map (under k) ts) ≡ true → Short k
-short-leaf k [] l h = absurd (omega arith)
-short-leaf k (t ∷ ts) l h = short-under k t (and-left (hasSlot (under k t)) (all hasSlot (map (under k) ts)) h)
+short-leaf : (k : Strings) (ts : List Key) → 1 ≤ length ts → all hasSlot (map (under k) ts) ≡ true → All OfPath (map (under k) ts) → AtNode k
+short-leaf k [] l h a = absurd (omega arith)
+short-leaf k (t ∷ ts) l h a = short-under k t (and-left (hasSlot (under k t)) (all hasSlot (map (under k) ts)) h) (all-head a)
 
 -- the bytes known above tries that are not empty
-short-tries : (n : ℕ) (above : Above) (k : Strings) (f : Forest) → Sound n above f → 1 ≤ length (tops f) → all hasSlot (keys k f) ≡ true → Short k
+short-tries : (n : ℕ) (above : Above) (k : Strings) (f : Forest) → Sound n above f → 1 ≤ length (tops f) → all hasSlot (keys k f) ≡ true → All OfPath (keys k f) → AtNode k
 unfolding Sound keys tops
-short-tries n above k none s l h = absurd (omega arith)
-short-tries n above k (leaf c ts more) s l h = short-join k c (short-leaf (join k c) ts (s .1) (tested-left hasSlot (map (under (join k c)) ts) (keys k more) h))
-short-tries n above k (inner d c children more) s l h =
-    short-join k c (short-tries n (below d) (join k c) children (s .2) (omega (arith, s .1)) (tested-left hasSlot (keys (join k c) children) (keys k more) h))
+short-tries n above k none s l h a = absurd (omega arith)
+short-tries n above k (leaf c ts more) s l h a =
+    short-join k c (short-leaf (join k c) ts (s .1) (tested-left hasSlot (map (under (join k c)) ts) (keys k more) h) (all-left (map (under (join k c)) ts) (keys k more) a))
+short-tries n above k (inner d c children more) s l h a =
+    short-join k c (short-tries n (below d) (join k c) children (s .2) (omega (arith, s .1)) (tested-left hasSlot (keys (join k c) children) (keys k more) h) (all-left (keys (join k c) children) (keys k more) a))
 
-pub nodes-fit : (n : ℕ) (above : Above) (k : Strings) (f : Forest) → Sound n above f → all hasSlot (keys k f) ≡ true → NodesFit k f
+pub nodes-fit : (n : ℕ) (above : Above) (k : Strings) (f : Forest) → Sound n above f → all hasSlot (keys k f) ≡ true → All OfPath (keys k f) → NodesFit k f
 unfolding Sound keys NodesFit
-nodes-fit n above k none s h = tt
-nodes-fit n above k (leaf c ts more) s h =
+nodes-fit n above k none s h a = tt
+nodes-fit n above k (leaf c ts more) s h a =
     let xs = map (under (join k c)) ts in
-    (short-leaf (join k c) ts (s .1) (tested-left hasSlot xs (keys k more) h), nodes-fit n above k more (s .3) (tested-right hasSlot xs (keys k more) h))
-nodes-fit n above k (inner d c children more) s h =
+    (short-leaf (join k c) ts (s .1) (tested-left hasSlot xs (keys k more) h) (all-left xs (keys k more) a), nodes-fit n above k more (s .3) (tested-right hasSlot xs (keys k more) h) (all-right xs (keys k more) a))
+nodes-fit n above k (inner d c children more) s h a =
     let xs = keys (join k c) children in
-    let own = tested-left hasSlot xs (keys k more) h in (
-      short-tries n (below d) (join k c) children (s .2) (omega (arith, s .1)) own,
-      nodes-fit n (below d) (join k c) children (s .2) own,
-      nodes-fit n above k more (s .3) (tested-right hasSlot xs (keys k more) h),
+    let own = tested-left hasSlot xs (keys k more) h in
+    let path = all-left xs (keys k more) a in (
+      short-tries n (below d) (join k c) children (s .2) (omega (arith, s .1)) own path,
+      nodes-fit n (below d) (join k c) children (s .2) own path,
+      nodes-fit n above k more (s .3) (tested-right hasSlot xs (keys k more) h) (all-right xs (keys k more) a),
     )
 
 -- ---- what matches has a slot
@@ -107,6 +113,7 @@ whole : (k : List ℕ) {q : Query} {t : List ℕ} {ks : List Key} {e : ℕ} → 
 whole k {q} w =
     let f = w .tries in
     let slots : all hasSlot (keys nothing f) ≡ true = ap (all hasSlot) (keys-root f (w .regular)) ∙ w .slots in
+    let paths : All OfPath (keys nothing f) = subst (All OfPath) (sym (keys-root f (w .regular))) (w .paths) in
     record {
       leaf = λ z. absurd (omega arith);
       inner = λ z.
@@ -116,7 +123,8 @@ whole k {q} w =
             regular = w .regular;
             sound = w .sound;
             high = w .high;
-            nodes-fit = nodes-fit 2 root nothing f (w .sound) slots;
+            nodes-fit = nodes-fit 2 root nothing f (w .sound) slots paths;
+            paths = paths;
             bytes = w .bytes;
             is = w .is ∙ sym (found-root (reaches q) (wants q) f (w .regular)) ∙ found-takes q (reaches q) root nothing f slots;
             entered = w .entered ∙ sym (nodes-root (reaches q) f (w .regular));

@@ -8,6 +8,7 @@ use Rattle.buffer.specs.Sizes.{wordLimit}
 use Rattle.buffer.specs.Lists.{all, All, pick}
 use Rattle.buffer.specs.Splice.{splice}
 use Rattle.matcher.specs.Form.{patternForm, isFine}
+use Rattle.matcher.specs.Continued.{FirstBytes}
 use Rattle.matcher.specs.Reach.{LiteralPrefix}
 use Rattle.rows.specs.Sizes.{valueSize, rowSize, nodeLimit}
 use Rattle.trie_theory.specs.Forest.{Strings, Key, Forest, none, leaf, inner, join, under, keys}
@@ -25,6 +26,10 @@ use Rattle.gather.specs.KeySlots.{endedLimit, hasSlot}
 use Rattle.gather.specs.Walks.{joined, Put}
 use Rattle.search.specs.Steps.{over, takes, keyRow}
 
+-- the path bytes of a key are the first of a formed path and its end byte; of an entry's key they are all of them
+abbrev pub OfPath : Key → Type 0
+OfPath x = FirstBytes (at 1 (x .strings))
+
 -- Rows are put into the answer s behind n others, and nodes are counted from c on: r and d. Where `Has` tells keys and nodes, they are these
 pub record Searched (Has : List Key → ℕ → Type 0) (v p room n c : ℕ) (s k s' k' : List ℕ) (r d : ℕ) : Type 0 where
   pub rows : Put keyRow (λ ks. ⊥) v p 0 room n s k s' k' r
@@ -32,13 +37,14 @@ pub record Searched (Has : List Key → ℕ → Type 0) (v p room n c : ℕ) (s 
   pub count : d ≡ c + nodes
   pub are : (ks : List Key) (e : ℕ) → Has ks e → (rows .put ≡ ks) × (nodes ≡ e)
 
--- THE TRIE in the bytes t, sound, with keys that have slots: the keys that a search finds, and the nodes that it enters
+-- THE TRIE in the bytes t, sound, of keys that have slots and formed paths: the keys that a search finds, and the nodes that it enters
 pub record TrieFound (q : Query) (t : List ℕ) (ks : List Key) (e : ℕ) : Type 0 where
   pub tries : Forest
   pub regular : Regular 2 tries
   pub sound : Sound 2 root tries
   pub high : height tries ≤ nodeLimit
   pub slots : all hasSlot (keys [] tries) ≡ true
+  pub paths : All OfPath (keys [] tries)
   pub bytes : t ≡ encode tries
   pub is : ks ≡ found (reaches q) (wants q) root [] tries
   pub entered : e ≡ nodesEntered (reaches q) root [] tries
@@ -65,16 +71,21 @@ pub record TrieSearched (q : Query) (t : List ℕ) (room n c : ℕ) (s s' : List
 abbrev pub Short : Strings → Type 0
 Short k = (length (at 0 k) ≤ valueSize) × (length (at 1 k) ≤ endedLimit)
 
--- those of every node have, with the bytes k known above the tries
+-- the strings known at a node: the path's are the first bytes of one
+abbrev pub AtNode : Strings → Type 0
+AtNode k = Short k × FirstBytes (at 1 k)
+
+-- every node has such strings, with the bytes k known above the tries
 unfoldable pub NodesFit : Strings → Forest → Type 0
 NodesFit k none = Unit {0}
-NodesFit k (leaf s ts more) = Short (join k s) × NodesFit k more
-NodesFit k (inner d s children more) = Short (join k s) × NodesFit (join k s) children × NodesFit k more
+NodesFit k (leaf s ts more) = AtNode (join k s) × NodesFit k more
+NodesFit k (inner d s children more) = AtNode (join k s) × NodesFit (join k s) children × NodesFit k more
 
 -- the same of suffixes, of tries, and of the body of a node
 pub record SuffixesFound (q : Query) (k : Strings) (t : List ℕ) (ks : List Key) (e : ℕ) : Type 0 where
   pub suffixes : List Key
   pub fixed : All Fixed suffixes
+  pub paths : All OfPath (map (under k) suffixes)
   pub bytes : t ≡ suffixesBytes suffixes
   pub is : ks ≡ pick (takes q) (map (under k) suffixes)
   pub entered : e ≡ 0
@@ -85,6 +96,7 @@ pub record TriesFound (q : Query) (above : Above) (depth : ℕ) (k : Strings) (t
   pub sound : Sound 2 above tries
   pub high : height tries ≤ depth
   pub nodes-fit : NodesFit k tries
+  pub paths : All OfPath (keys k tries)
   pub bytes : t ≡ encode tries
   pub is : ks ≡ found (reaches q) (takes q) above k tries
   pub entered : e ≡ nodesEntered (reaches q) above k tries

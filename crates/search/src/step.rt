@@ -1,5 +1,6 @@
 // The steps of a search. The key buffer of a walk (crate gather) has the known bytes. What is the same for all children of a node, or for all suffixes
-// of a leaf, is asked once; of a child or a suffix the value is asked first, and its bytes are copied only where they are needed.
+// of a leaf, is asked once; of a child or a suffix the value is asked first, and its bytes are copied only where they are needed. The form of paths is not
+// looked at: those of a store that our calls left are formed, and of other bytes a step answers by their labels.
 use crate::value::Span;
 use crate::value::span_behind;
 use crate::value::value_at;
@@ -25,6 +26,7 @@ ghost use lib.ListN.{length, take};
 ghost use lib.Dec.{eqb, ltb};
 ghost use Rattle.buffer.specs.Splice.{region, splice};
 ghost use Rattle.matcher.specs.Form.{patternForm, isFine};
+ghost use Rattle.matcher.specs.Continued.{FirstBytes};
 ghost use Rattle.matcher.specs.Reach.{reachOf, goesOn, LiteralPrefix};
 ghost use Rattle.rows.specs.Sizes.{valueSize, pathAt};
 ghost use Rattle.trie_theory.specs.Search.{enters};
@@ -164,7 +166,7 @@ fn value_more(low: u64, high: u64, known: &[u8], from: u64, to: u64, s: &[u8]) -
 fn path_with(pattern: &[u8], literal: usize, key: &mut [u8], p: usize, s: &[u8]) -> Answer
     requires { ⌜ (isFine (patternForm (now pattern)) ≡ true) × LiteralPrefix (now pattern) literal ⌝ }
     requires { ⌜ (length (now key) ≡ slotSize) × (p + length (now s) ≤ endedLimit + 1) ⌝ }
-    ensures { λ r. ⌜ r ≡ reachOf (now (pattern .entry)) (region (now (key .entry)) pathAt p ++ now (s .entry)) ⌝ }
+    ensures { λ r. ⌜ (FirstBytes (region (now (key .entry)) pathAt p ++ now (s .entry)) → r ≡ reachOf (now (pattern .entry)) (region (now (key .entry)) pathAt p ++ now (s .entry))) ⌝ }
     ensures { λ _. ⌜ now (key .exit) ≡ splice (now (key .entry)) (pathAt + p) (now (s .entry)) ⌝ }
 {
     let at = PATH_AT + p;
@@ -177,7 +179,7 @@ fn path_with(pattern: &[u8], literal: usize, key: &mut [u8], p: usize, s: &[u8])
 fn path_answer(pattern: &[u8], literal: usize, key: &mut [u8], p: usize, s: &[u8]) -> Answer
     requires { ⌜ (isFine (patternForm (now pattern)) ≡ true) × LiteralPrefix (now pattern) literal ⌝ }
     requires { ⌜ (length (now key) ≡ slotSize) × (p + length (now s) ≤ endedLimit + 1) ⌝ }
-    ensures { λ r. ⌜ r ≡ reachOf (now (pattern .entry)) (region (now (key .entry)) pathAt p ++ now (s .entry)) ⌝ }
+    ensures { λ r. ⌜ (FirstBytes (region (now (key .entry)) pathAt p ++ now (s .entry)) → r ≡ reachOf (now (pattern .entry)) (region (now (key .entry)) pathAt p ++ now (s .entry))) ⌝ }
     ensures { λ _. ⌜ take (pathAt + p) (now (key .exit)) ≡ take (pathAt + p) (now (key .entry)) ⌝ }
 {
     if ruled_out(pattern, literal, p, s) {
@@ -197,7 +199,7 @@ fn ask_path(
 ) -> Answer
     requires { ⌜ (isFine (patternForm (now pattern)) ≡ true) × LiteralPrefix (now pattern) literal ⌝ }
     requires { ⌜ (length (now key) ≡ slotSize) × (p + length (now s) ≤ endedLimit + 1) ⌝ }
-    ensures { λ r. ⌜ r ≡ both value (reachOf (now (pattern .entry)) (region (now (key .entry)) pathAt p ++ now (s .entry))) ⌝ }
+    ensures { λ r. ⌜ (FirstBytes (region (now (key .entry)) pathAt p ++ now (s .entry)) → r ≡ both value (reachOf (now (pattern .entry)) (region (now (key .entry)) pathAt p ++ now (s .entry)))) ⌝ }
     ensures { λ _. ⌜ take (pathAt + p) (now (key .exit)) ≡ take (pathAt + p) (now (key .entry)) ⌝ }
 {
     match value {
@@ -238,7 +240,7 @@ fn admits(
     requires { ⌜ (length (now key) ≡ slotSize) × (v ≤ valueSize) × (p ≤ endedLimit) × (headSize ≤ path) × (path ≤ body) × (body ≤ length (now t)) × (kind ≡ 0 → ⊥) ⌝ }
     requires { ⌜ InCommon (asked (now pattern) low high) kind v p (now key) common ⌝ }
     ensures { λ r.
-        ⌜ r ≡ enters (reaches (asked (now (pattern .entry)) low high)) (over kind) (known v p (now (key .entry))) (part headSize path (now (t .entry)) ∷ part path body (now (t .entry)) ∷ []) ⌝ }
+        ⌜ (FirstBytes (region (now (key .entry)) pathAt p ++ part path body (now (t .entry))) → r ≡ enters (reaches (asked (now (pattern .entry)) low high)) (over kind) (known v p (now (key .entry))) (part headSize path (now (t .entry)) ∷ part path body (now (t .entry)) ∷ [])) ⌝ }
     ensures { λ _. ⌜ known v p (now (key .exit)) ≡ known v p (now (key .entry)) ⌝ }
 {
     if kind == ROOT { // it is entered

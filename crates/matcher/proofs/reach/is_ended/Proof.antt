@@ -1,7 +1,7 @@
 -- `matcher::reach::is_ended` meets its contract: the tests are its factors.
 -- Assumes nothing.
 use borrow.Author.Needs.{needs}
-use Rattle.matcher.proofs.Decided.{ended-none, ended-some}
+use Rattle.matcher.proofs.Firsts.{ended-none, ended-some}
 use Rattle.matcher.proofs.reach.is_ended.Statement.{statement}
 use Rattle.matcher.proofs.reach.is_ended.Tie as tie
 

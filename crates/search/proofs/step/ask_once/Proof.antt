@@ -22,7 +22,7 @@ from-start n = omega arith
 returns : tie.Need-returns
 returns c =
     let e = c .if1 .taken in
-    record { bytes = λ k. absurd (omega (arith, e, k)); other = λ z. absurd (z e); single = λ y. not-both y refl }
+    record { bytes = λ k. absurd (omega (arith, e, k)); other = λ z f. absurd (z e); single = λ y. not-both y refl }
 
 returns-2 : tie.Need-returns-2
 returns-2 c =
@@ -36,7 +36,7 @@ returns-2 c =
     λ short. (rw (from-start (a .v)) at (bytes .ensures (a .pattern .now))) (omega (arith, length-take-le (a .v) (a .key .now) (omega (arith, pre .1)))) in
     record {
       bytes = λ k short. spans short;
-      other = λ z. rw (eq-eqb (a .kind) 1 one) (c .before .reach-from .ensures (pre .0 .0) (pre .0 .1) ∙ ap (λ (n : ℕ). reachOf (a .pattern .now) (take n (drop pathAt (a .key .now)))) path);
+      other = λ z f. rw (eq-eqb (a .kind) 1 one) (c .before .reach-from .ensures (pre .0 .0) (pre .0 .1) (rw path (f one)) ∙ ap (λ (n : ℕ). reachOf (a .pattern .now) (take n (drop pathAt (a .key .now)))) path);
       single = λ y.
           let same : bytes .result .to ≡ bytes .result .from = sym (eqb-true (bytes .result .from) (bytes .result .to) y) in
           value-byte (a .pattern .now) (a .low) (a .high) (a .v) (a .p) (bytes .result .from) (a .key .now) (pre .1 .0) (pre .1 .1) (λ short. rw same at (spans short)) (a .kind) one;
@@ -49,7 +49,7 @@ returns-3 c =
     let one = c .before .before .before .if2 .left in
     record {
       bytes = λ k short. absurd (one k);
-      other = λ z. rw (ne-eqb (a .kind) 1 one) (c .before .value-reach .ensures (a .pattern .now) ∙ ap (λ (n : ℕ). valueReach (asked (a .pattern .now) (a .low) (a .high)) (take n (a .key .now))) (from-start (a .v)));
+      other = λ z f. rw (ne-eqb (a .kind) 1 one) (c .before .value-reach .ensures (a .pattern .now) ∙ ap (λ (n : ℕ). valueReach (asked (a .pattern .now) (a .low) (a .high)) (take n (a .key .now))) (from-start (a .v)));
       single = λ y.
           path-byte (a .pattern .now) (a .low) (a .high) (a .v) (a .p) _ (a .key .now) (pre .1 .0) (pre .1 .2) (pre .0 .1) (c .one-leads .ensures (a .pattern .now)) y refl (a .kind) (pre .1 .3) one (c .before .before .before .before .if1 .left);
     }

@@ -12,6 +12,6 @@ descend-spec =
     (λ c κs. search needs)
     (λ c κs. search needs)
     (λ c. search needs)
-    (λ c. descended (c .before .before .before .before .before .before .before .admits .ensures .1) (c .before .before .enter .ensures) (sym (c .before .before .before .before .if1 .taken) ∙ c .before .before .before .before .before .before .before .admits .ensures .0))
+    (λ c. descended (c .before .before .before .before .before .before .before .admits .ensures .1) (c .before .before .enter .ensures) (λ f. sym (c .before .before .before .before .if1 .taken) ∙ c .before .before .before .before .before .before .before .admits .ensures .0 f))
     (λ c. search needs)
-    (λ c. not-descended (c .before .before .before .admits .ensures .1) (sym (c .if1 .left) ∙ c .before .before .before .admits .ensures .0)))
+    (λ c. not-descended (c .before .before .before .admits .ensures .1) (λ f. sym (c .if1 .left) ∙ c .before .before .before .admits .ensures .0 f)))

@@ -13,7 +13,7 @@ returns : tie.Need-returns
 returns c =
     let a = c .before .before .before .before .before .args in
     let pre = c .before .before .before .before .before .pre in
-    (sym (c .before .ruled-out .ensures .mismatch (pre .0 .1) (c .if1 .taken) (region (a .key .now) pathAt (a .p)) (length-region (a .key .now) pathAt (a .p) (omega (arith, pre .1)))), refl)
+    ((λ f. sym (c .before .ruled-out .ensures .mismatch (pre .0 .1) (c .if1 .taken) (region (a .key .now) pathAt (a .p)) (length-region (a .key .now) pathAt (a .p) (omega (arith, pre .1))))), refl)
 
 returns-2 : tie.Need-returns-2
 returns-2 c =

@@ -11,7 +11,8 @@ returns c =
     let a = c .before .before .before .before .before .before .before .before .before .before .args in
     let pre = c .before .before .before .before .before .before .before .before .before .before .pre in
     let w = c .before .before .before .before .before .copy-from .ensures in
-    (c .reach-from .ensures (pre .0 .0) (pre .0 .1) ∙ ap (reachOf (a .pattern .now)) (path-more (a .key .now) _ (a .s .now) (a .p) (pre .1 .0) (pre .1 .1) w), w)
+    let more = path-more (a .key .now) _ (a .s .now) (a .p) (pre .1 .0) (pre .1 .1) w in
+    ((λ f. c .reach-from .ensures (pre .0 .0) (pre .0 .1) (rw more f) ∙ ap (reachOf (a .pattern .now)) more), w)
 
 pub path-with-spec : {M : Type 1} → statement M
 path-with-spec =

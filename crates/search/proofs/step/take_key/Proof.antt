@@ -40,9 +40,8 @@ returns-3 c =
     λ low high l.
     let q = asked (a .pattern .now) low high in
     let value = c .before .before .before .before .before .before .before .before .before .before .before .value-at .ensures q (take (a .v) (a .key .now)) (length-take-le (a .v) (a .key .now) (omega arith)) (of-rest (a .v) (a .path) (omega (arith, c .before .before .before .before .before .before .before .before .before .before .before .before .before .if1 .left)) l) in
-    let wants = wants-told q (a .v) (a .p) (a .b .now) (a .path) (a .next) (a .key .now) (pre .0) (pre .1) (pre .2) (pre .4) (pre .5) _ _ _ value (m .ensures .0) (c .before .before .before .before .before .is-match .ensures) ∙ c .before .before .before .before .if3 .taken in
     taken-slot q (a .v) (a .p) (a .b .now) (a .path) (a .next) (a .key .now) (pre .0) (pre .1) (pre .2) (pre .4) (pre .5) _
-    (known-front (a .v) (a .p) (a .key .now) _ (pre .0) (m .kept .1 .1 .1 .0 ∙ pre .0) (pre .1) (m .ensures .1)) _ _ wants (c .before .before .compose .ensures .0) (c .before .before .compose .ensures .1)
+    (known-front (a .v) (a .p) (a .key .now) _ (pre .0) (m .kept .1 .1 .1 .0 ∙ pre .0) (pre .1) (m .ensures .1)) _ _ (λ f. wants-told q (a .v) (a .p) (a .b .now) (a .path) (a .next) (a .key .now) (pre .0) (pre .1) (pre .2) (pre .4) (pre .5) _ _ _ value (m .ensures .0 f) (c .before .before .before .before .before .is-match .ensures) ∙ c .before .before .before .before .if3 .taken) (c .before .before .compose .ensures .0) (c .before .before .compose .ensures .1)
 
 returns-4 : tie.Need-returns-4
 returns-4 c =
@@ -52,9 +51,8 @@ returns-4 c =
     λ low high l.
     let q = asked (a .pattern .now) low high in
     let value = c .before .before .before .before .before .before .before .value-at .ensures q (take (a .v) (a .key .now)) (length-take-le (a .v) (a .key .now) (omega arith)) (of-rest (a .v) (a .path) (omega (arith, c .before .before .before .before .before .before .before .before .before .if1 .left)) l) in
-    let wants = wants-told q (a .v) (a .p) (a .b .now) (a .path) (a .next) (a .key .now) (pre .0) (pre .1) (pre .2) (pre .4) (pre .5) _ _ _ value (m .ensures .0) (c .before .is-match .ensures) ∙ c .if3 .left in
     taken-out q (a .v) (a .p) (a .b .now) (a .path) (a .next) (a .key .now) (pre .0) (pre .1) (pre .2) (pre .4) (pre .5) _
-    (known-front (a .v) (a .p) (a .key .now) _ (pre .0) (m .kept .1 .1 .1 .0 ∙ pre .0) (pre .1) (m .ensures .1)) wants
+    (known-front (a .v) (a .p) (a .key .now) _ (pre .0) (m .kept .1 .1 .1 .0 ∙ pre .0) (pre .1) (m .ensures .1)) (λ f. wants-told q (a .v) (a .p) (a .b .now) (a .path) (a .next) (a .key .now) (pre .0) (pre .1) (pre .2) (pre .4) (pre .5) _ _ _ value (m .ensures .0 f) (c .before .is-match .ensures) ∙ c .if3 .left)
 
 pub take-key-spec : {M : Type 1} → statement M
 take-key-spec =
