@@ -1,18 +1,16 @@
 -- The test `reachOf` says what it means, `Told`, of every pattern and all known bytes. Assumes nothing.
-use mathlib.Core.Path.{_≡_, refl, sym, ap, ap₂, subst, _∙_}
+use mathlib.Core.Path.{_≡_, refl, sym, ap, subst, _∙_}
 use mathlib.Core.List.{List, [], _∷_, _++_, append-assoc, append-nil}
 use mathlib.Core.Bool.{Bool, true, false, cond, _&&_}
-use Prim.Native.Nat.{ℕ, suc, _-_, _≤_}
-use native.Mathlib.Omega.{arith}
-use lib.ListN.{length, take, drop-of-length-le}
-use lib.Seq.{split-at}
+use Prim.Native.Nat.{ℕ, _-_}
+use lib.ListN.{length, take}
 use lib.Dec.{eqb}
-use borrow.Author.Tests.{eq-eqb, eqb-true}
+use borrow.Author.Tests.{eqb-true}
 use Rattle.buffer.specs.Lists.{none, all}
 use Rattle.matcher.specs.Bytes.{slash, star, endByte, labelByte}
 use Rattle.glob.specs.Inner.{Begun}
 use Rattle.matcher.specs.Labels.{labelsOf}
-use Rattle.matcher.specs.Form.{apart, pathLabel, patternLabel, formedPath, formedPattern, pathForm, patternForm, isFine}
+use Rattle.matcher.specs.Form.{apart, pathLabel, patternLabel, formedPattern, pathForm, patternForm, isFine}
 use Rattle.matcher.specs.Fit.{fit, fitLabels, fitsPath}
 use Rattle.matcher.specs.Matches.{matches}
 use Rattle.matcher.specs.Continued.{FirstBytes, Continued, ended, Told}
@@ -20,9 +18,7 @@ use Rattle.matcher.specs.Reach.{beginsPath, isFirst, beginsLabels, reach
 use Rattle.matcher.specs.declared.reach.Answer.{Answer}
 use Rattle.matcher.specs.declared.reach.Answer.the-variants.{Match, Mismatch, Incomplete}
 use Rattle.buffer.proofs.Tests.{not-both, and-left, and-right, and-both, and-false}
-use Rattle.glob.proofs.Parts.{no-items, not-none, last-place}
 use Rattle.matcher.proofs.Forms.{fine-path, fine-pattern, matches-pattern, matches-path, matches-fits, labelled-all}
-use Rattle.matcher.proofs.Apart.{lastByte}
 use Rattle.matcher.proofs.Goes.{begins-all, goes-all}
 use Rattle.matcher.proofs.Joined.{joined, join-begun, labels-of-join, formed-join, ext-join, prefix-ext}
 use Rattle.matcher.proofs.Prefixes.{opened, before-last}
@@ -35,11 +31,6 @@ pattern-some (c ∷ p) e = rw (and-left (eqb c slash) (all patternLabel (labelsO
 pub begins-begun : (known : List ℕ) → beginsPath known ≡ true → Begun known
 begins-begun [] e = λ f. absurd (f refl)
 begins-begun (c ∷ k) e = λ f. eqb-true c slash (and-left (eqb c slash) (apart slash (c ∷ k)) e)
-
--- one test that fails is enough
-pub mismatched : (a b : Bool) (x : Answer) → b ≡ false → Mismatch ≡ cond (a && b) x Mismatch
-mismatched true b x e = rw e
-mismatched false b x e = refl
 
 -- the bytes known begin a path, and their labels can fit: some path goes on from them and fits
 module _ (pattern known : List ℕ) (P : isFine (patternForm pattern) ≡ true) where

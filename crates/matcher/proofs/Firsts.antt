@@ -17,7 +17,7 @@ use Rattle.matcher.specs.Form.{formedPath}
 use Rattle.matcher.specs.Continued.{ended, FirstBytes}
 use Rattle.matcher.specs.Reach.{beginsPath, isFirst}
 use Rattle.matcher.proofs.Apart.{lastByte}
-use Rattle.matcher.proofs.Prefixes.{begins-of, opened, last-of, before-last, closed-path, open-path}
+use Rattle.matcher.proofs.Prefixes.{begins-of, last-of, before-last, closed-path, open-path}
 
 -- bytes with the end byte last, and others
 pub ended-last : (known : List ℕ) → ended known ≡ true → (length known ≡ 0 → ⊥) × (lastByte known ≡ endByte)

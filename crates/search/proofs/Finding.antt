@@ -1,19 +1,24 @@
 -- The turns of a loop of a search: rows put and nodes counted so far, and what is left; and the turns over suffixes. Assumes nothing.
 use mathlib.Core.Path.{_≡_, refl, sym, ap, subst, _∙_}
-use mathlib.Core.Bool.{Bool, true, false, cond}
-use Prim.Native.Nat.{ℕ, _+_, _*_, _≤_}
+use mathlib.Core.Bool.{Bool, true, false, cond, _&&_}
+use Prim.Native.Nat.{ℕ, _+_, _*_, _≤_, _<_}
 use mathlib.Core.List.{List, [], _∷_, _++_, append-assoc, append-nil, map}
 use native.Mathlib.Omega.{arith}
-use lib.ListN.{length, take}
+use lib.ListN.{length, take, length-append}
 use lib.Dec.{ltb}
-use Rattle.buffer.specs.Lists.{All, pick}
+use Rattle.buffer.specs.Lists.{All, nil, cons, pick}
+use Rattle.buffer.specs.Numbers.{number}
 use Rattle.buffer.specs.Splice.{region, splice}
-use Rattle.buffer.proofs.Lists.{all-head, all-tail, pick-append}
+use Rattle.buffer.proofs.Lists.{all-head, all-tail, all-imp, pick-append}
 use Rattle.matcher.specs.Continued.{FirstBytes}
-use Rattle.rows.specs.Sizes.{rowSize, pathAt}
-use Rattle.trie_theory.specs.Forest.{Strings, Key, under}
+use Rattle.matcher.specs.Reach.{reachOf}
+use Rattle.matcher.specs.declared.reach.Answer.the-variants.{Mismatch}
+use Rattle.rows.specs.Sizes.{valueSize, rowSize, pathAt}
+use Rattle.trie_theory.specs.Forest.{Strings, Key, join, under}
 use Rattle.trie_theory.specs.Strings.{at}
-use Rattle.entries.specs.Query.{Query}
+use Rattle.trie_theory.specs.Sound.{Rising}
+use Rattle.trie_theory.proofs.Strings.{at-join}
+use Rattle.entries.specs.Query.{Query, valueReach, isMatch, wants}
 use Rattle.trie_read.specs.Shape.{part, Fixed}
 use Rattle.trie_read.specs.Suffixes.{suffixesBytes, tailOf}
 use Rattle.trie_read.specs.declared.suffixes.Tail.{Tail}
@@ -21,11 +26,14 @@ use Rattle.trie_read.specs.declared.suffixes.Tail.the-variants.{End, Bad, At}
 use Rattle.trie_read.proofs.Suffix.{tail-end, tail-good, tail-at}
 use Rattle.gather.specs.KeySlots.{hasSlot, keySlot, known, suffixKey}
 use Rattle.gather.specs.Walks.{Put}
+use Rattle.gather.proofs.Filling.{slotted}
 pub use Rattle.gather.proofs.Filling.{length-row}
 use Rattle.gather.proofs.Putting.{put-none, put-then, put-one}
 use Rattle.gather.proofs.Splitting.{pick-one, pick-not, seen-key}
 use Rattle.search.specs.Steps.{takes, keyRow, Taken}
 use Rattle.search.specs.Searches.{OfPath, Searched, SuffixesFound}
+use Rattle.search.specs.Spans.{Spans}
+use Rattle.search.proofs.Ranges.{with-above}
 use Rattle.search.proofs.Steps.{key-path}
 
 -- ---- a loop
@@ -157,6 +165,38 @@ none-taken : (q : Query) (k : Strings) (ts : List Key) → ts ≡ [] → pick (t
 unfolding pick
 none-taken q k ts e = rw e
 
+-- a key whose value, of which at 0 k is known, lies above the range
+above-range : (q : Query) (k : Strings) (u : Key) {n from to : ℕ} → Spans q (at 0 k) n from to → length (at 0 k) + n ≡ valueSize → to < number (at 0 (u .strings))
+    → takes q (under k u) ≡ false
+unfolding takes wants under
+above-range q k u {n} {from} {to} spans whole h = go (hasSlot (under k u)) refl
+  where
+    out : length (at 0 (join k (u .strings))) ≡ valueSize → Mismatch ≡ valueReach q (at 0 (join k (u .strings)))
+    out l =
+        let j = at-join 0 k (u .strings) in
+        let long : length (at 0 (u .strings)) ≡ n = omega (arith, ap length j, length-append (at 0 k) (at 0 (u .strings))) in
+        rw j (with-above q (at 0 k) (at 0 (u .strings)) from to (rw long spans) h)
+
+    go : (b : Bool) → hasSlot (under k u) ≡ b → b && (isMatch (valueReach q (at 0 (join k (u .strings)))) && isMatch (reachOf (q .pattern) (at 1 (join k (u .strings))))) ≡ false
+    go false e = refl
+    go true e = rw (← out (slotted (under k u) e .value))
+
+none-above : (q : Query) (k : Strings) {n from to : ℕ} → Spans q (at 0 k) n from to → length (at 0 k) + n ≡ valueSize → {us : List Key}
+    → All (λ u. to < number (at 0 (u .strings))) us → pick (takes q) (map (under k) us) ≡ []
+unfolding pick
+none-above q k spans whole nil = refl
+none-above q k spans whole (cons {x = u} h a) = rw (above-range q k u spans whole h, none-above q k spans whole a)
+
+module _ (x : Key) (xs : List Key) (r : Rising (x ∷ xs)) where
+  rising-tail : Rising xs
+  unfolding Rising
+  rising-tail = r .1
+
+  -- where the first lies above, all do
+  rising-above : (to : ℕ) → to < number (at 0 (x .strings)) → All (λ u. to < number (at 0 (u .strings))) (x ∷ xs)
+  unfolding Rising
+  rising-above to h = cons h (all-imp (λ u l. omega arith) (r .0))
+
 module _ {q : Query} {k : Strings} {t : List ℕ} {r : Tail} (is : (us : List Key) → All Fixed us → t ≡ suffixesBytes us → r ≡ tailOf us) where
   pub suffixes-end : r ≡ End → (ks : List Key) (e : ℕ) → SuffixesFound q k t ks e → (ks ≡ []) × (e ≡ 0)
   suffixes-end z ks e s = (s .is ∙ none-taken q k (s .suffixes) (tail-end (s .suffixes) (sym z ∙ is (s .suffixes) (s .fixed) (s .bytes))), s .entered)
@@ -164,10 +204,19 @@ module _ {q : Query} {k : Strings} {t : List ℕ} {r : Tail} (is : (us : List Ke
   pub suffixes-bad : r ≡ Bad → (ks : List Key) (e : ℕ) → SuffixesFound q k t ks e → (ks ≡ []) × (e ≡ 0)
   suffixes-bad z ks e s = absurd (tail-good (s .suffixes) (sym z ∙ is (s .suffixes) (s .fixed) (s .bytes)))
 
+  -- the first lies above the range, and so do all
+  pub suffixes-above : (path next : ℕ) → r ≡ At path next → {n from to : ℕ} → Spans q (at 0 k) n from to → length (at 0 k) + n ≡ valueSize → to < number (part 22 path t)
+      → (ks : List Key) (e : ℕ) → SuffixesFound q k t ks e → (ks ≡ []) × (e ≡ 0)
+  suffixes-above path next z {to = to} spans whole h ks e s =
+      let v = tail-at t (s .suffixes) path next (s .fixed) (s .bytes) (sym z ∙ is (s .suffixes) (s .fixed) (s .bytes)) in
+      let above = rising-above (v .t) (v .others) (subst Rising (v .is) (s .rises)) to (rw (v .places .value-is) at h) in
+      (s .is ∙ ap (λ (us : List Key). pick (takes q) (map (under k) us)) (v .is) ∙ none-above q k spans whole above, s .entered)
+
   pub suffixes-split : (path next : ℕ) → r ≡ At path next → (ks : List Key) (e : ℕ) → SuffixesFound q k t ks e
       → Parts (OneKey q (suffixKey k t path next)) (SuffixesFound q k (part next (length t) t)) ks e
   suffixes-split path next z ks e s =
       let v = tail-at t (s .suffixes) path next (s .fixed) (s .bytes) (sym z ∙ is (s .suffixes) (s .fixed) (s .bytes)) in
+      let rises : Rising (v .t ∷ v .others) = subst Rising (v .is) (s .rises) in
       let paths : All OfPath (under k (v .t) ∷ map (under k) (v .others)) = subst (λ (us : List Key). All OfPath (map (under k) us)) (v .is) (s .paths) in
       record {
         first = pick (takes q) (suffixKey k t path next ∷ []);
@@ -175,7 +224,7 @@ module _ {q : Query} {k : Strings} {t : List ℕ} {r : Tail} (is : (us : List Ke
         before = 0;
         behind = 0;
         one = (subst (λ (x : Key). OfPath (under k x)) (sym (seen-key v)) (all-head paths), refl, refl);
-        other = record { suffixes = v .others; fixed = v .fixed; paths = all-tail paths; bytes = v .places .rest-is; is = refl; entered = refl };
+        other = record { suffixes = v .others; fixed = v .fixed; paths = all-tail paths; rises = rising-tail (v .t) (v .others) rises; bytes = v .places .rest-is; is = refl; entered = refl };
         is =
             s .is
             ∙ ap (λ (us : List Key). pick (takes q) (map (under k) us)) (v .is)

@@ -9,18 +9,17 @@ use lib.ListN.{length, take, length-append}
 use lib.Dec.{leb}
 use lib.Seq.{length-take-le}
 use borrow.Author.Tests.{le-leb, ne-eqb}
-use Rattle.buffer.specs.Lists.{All, nil, cons, pick}
+use Rattle.buffer.specs.Lists.{pick}
 use Rattle.buffer.specs.Splice.{region}
-use Rattle.buffer.proofs.Lists.{all-imp, all-both, all-left, all-right}
+use Rattle.buffer.proofs.Lists.{all-imp, all-both}
 use Rattle.buffer.proofs.Splice.{length-region}
 use Rattle.buffer.proofs.Tests.{and-right, and-both, not-both}
 use Rattle.matcher.specs.Continued.{FirstBytes}
 use Rattle.rows.specs.Sizes.{valueSize, pathAt}
-use Rattle.trie_theory.specs.Forest.{Strings, Key, Forest, none, leaf, inner, join, under, keys, tops}
+use Rattle.trie_theory.specs.Forest.{Strings, Key, Forest, leaf, inner, join, under}
 use Rattle.trie_theory.specs.Strings.{at}
 use Rattle.trie_theory.specs.Dimensions.{Above, below, branching}
-use Rattle.trie_theory.specs.Sound.{Node, Sound, Starts}
-use Rattle.trie_theory.specs.Size.{height}
+use Rattle.trie_theory.specs.Sound.{Node, Starts}
 use Rattle.trie_theory.specs.Search.{enters, found, nodesEntered}
 use Rattle.trie_theory.specs.Encode.{Regular, encode}
 use Rattle.entries.specs.Slots.{slotSize}
@@ -37,87 +36,12 @@ use Rattle.gather.specs.KeySlots.{endedLimit, known}
 use Rattle.gather.proofs.Filling.{known-less}
 use Rattle.gather.proofs.Splitting.{leaf-high, inner-high}
 use Rattle.search.specs.Steps.{rootKind, over, takes, OneByte, Descended}
-use Rattle.search.specs.Searches.{OfPath, Searched, SuffixesFound, TriesFound, BodyFound, Short, AtNode, NodesFit}
+use Rattle.search.specs.Searches.{Searched, SuffixesFound, TriesFound, BodyFound, Short, AtNode}
 use Rattle.search.proofs.Steps.{node-path}
+use Rattle.search.proofs.Nodes.{found-none, found-low, leaf-in, leaf-out, inner-in, inner-out, none-in, tops-sound, leaf-sound, inner-sound, leaf-roomy, inner-roomy, leaf-keys, inner-keys}
 use Rattle.search.proofs.Finding.{Finding, finding-on, finding-less, finding-end, Parts, searched-none}
 
 -- ---- tries
-
-module _ (reach : Strings → Bool) (m : Key → Bool) (above : Above) (k : Strings) where
-  found-none : (f : Forest) → f ≡ none → (found reach m above k f ≡ []) × (nodesEntered reach above k f ≡ 0)
-  unfolding found nodesEntered
-  found-none f e = (rw e, rw e)
-
-  found-low : (f : Forest) → height f ≤ 0 → (found reach m above k f ≡ []) × (nodesEntered reach above k f ≡ 0)
-  unfolding height found nodesEntered
-  found-low none h = (refl, refl)
-  found-low (leaf s ts more) h = absurd (omega arith)
-  found-low (inner d s children more) h = absurd (omega arith)
-
-  module _ (s : Strings) (more : Forest) where
-    leaf-in : (ts : List Key) → enters reach above k s ≡ true
-        → (found reach m above k (leaf s ts more) ≡ pick m (map (under (join k s)) ts) ++ found reach m above k more)
-        × (nodesEntered reach above k (leaf s ts more) ≡ 1 + nodesEntered reach above k more)
-    unfolding found nodesEntered
-    leaf-in ts e = (rw e, rw e)
-
-    leaf-out : (ts : List Key) → enters reach above k s ≡ false
-        → (found reach m above k (leaf s ts more) ≡ found reach m above k more)
-        × (nodesEntered reach above k (leaf s ts more) ≡ nodesEntered reach above k more)
-    unfolding found nodesEntered
-    leaf-out ts e = (rw e, rw e (omega arith))
-
-    inner-in : (d : ℕ) (children : Forest) → enters reach above k s ≡ true
-        → (found reach m above k (inner d s children more) ≡ found reach m (below d) (join k s) children ++ found reach m above k more)
-        × (nodesEntered reach above k (inner d s children more) ≡ 1 + nodesEntered reach (below d) (join k s) children + nodesEntered reach above k more)
-    unfolding found nodesEntered
-    inner-in d children e = (rw e, rw e)
-
-    inner-out : (d : ℕ) (children : Forest) → enters reach above k s ≡ false
-        → (found reach m above k (inner d s children more) ≡ found reach m above k more)
-        × (nodesEntered reach above k (inner d s children more) ≡ nodesEntered reach above k more)
-    unfolding found nodesEntered
-    inner-out d children e = (rw e, rw e (omega arith))
-
-  -- none of them is entered
-  none-in : (f : Forest) → All (λ s. enters reach above k s ≡ false) (tops f) → (found reach m above k f ≡ []) × (nodesEntered reach above k f ≡ 0)
-  unfolding found nodesEntered tops
-  none-in none h = (refl, refl)
-  none-in (leaf s ts more) (cons e h) = let i = none-in more h in (rw (e, i .0), rw (e, i .1))
-  none-in (inner d s children more) (cons e h) = let i = none-in more h in (rw (e, i .0), rw (e, i .1))
-
--- each of sound tries has its strings and its branching byte
-tops-sound : (above : Above) (f : Forest) → Sound 2 above f → All (λ s. (length s ≡ 2) × Starts above s) (tops f)
-unfolding Sound tops
-tops-sound above none h = nil
-tops-sound above (leaf s ts more) h = cons (h .0 .wide, h .0 .starts) (tops-sound above more (h .3))
-tops-sound above (inner d s children more) h = cons (h .0 .wide, h .0 .starts) (tops-sound above more (h .3))
-
--- a leaf and an inner node before their siblings
-leaf-sound : (above : Above) (s : Strings) (ts : List Key) (more : Forest) → Sound 2 above (leaf s ts more) → Node 2 above s more × Sound 2 above more
-unfolding Sound
-leaf-sound above s ts more h = (h .0, h .3)
-
-inner-sound : (above : Above) (d : ℕ) (s : Strings) (children more : Forest) → Sound 2 above (inner d s children more)
-    → Node 2 above s more × Sound 2 (below d) children × Sound 2 above more
-unfolding Sound
-inner-sound above d s children more h = (h .0, h .2, h .3)
-
-leaf-roomy : (k s : Strings) (ts : List Key) (more : Forest) → NodesFit k (leaf s ts more) → AtNode (join k s) × NodesFit k more
-unfolding NodesFit
-leaf-roomy k s ts more r = r
-
-inner-roomy : (k s : Strings) (d : ℕ) (children more : Forest) → NodesFit k (inner d s children more) → AtNode (join k s) × NodesFit (join k s) children × NodesFit k more
-unfolding NodesFit
-inner-roomy k s d children more r = r
-
-leaf-paths : (k s : Strings) (ts : List Key) (more : Forest) → All OfPath (keys k (leaf s ts more)) → All OfPath (map (under (join k s)) ts) × All OfPath (keys k more)
-unfolding keys
-leaf-paths k s ts more a = (all-left (map (under (join k s)) ts) (keys k more) a, all-right (map (under (join k s)) ts) (keys k more) a)
-
-inner-paths : (k s : Strings) (d : ℕ) (children more : Forest) → All OfPath (keys k (inner d s children more)) → All OfPath (keys (join k s) children) × All OfPath (keys k more)
-unfolding keys
-inner-paths k s d children more a = (all-left (keys (join k s) children) (keys k more) a, all-right (keys (join k s) children) (keys k more) a)
 
 -- a node's kind is a byte
 over-inner : (kind d : ℕ) → kind ≡ suc d → kind < rootKind → over kind ≡ below d
@@ -183,7 +107,7 @@ module _ {q : Query} {above : Above} {depth : ℕ} {k : Strings} {t : List ℕ} 
         let n = strings-are (w .places) (w .wide) in
         let f = leaf-in (reaches q) (takes q) above k (w .strings) (w .more) (w .suffixes) (rw n at y) in
         let u = leaf-sound above (w .strings) (w .suffixes) (w .more) (rw (w .is) at (s .sound)) in
-        let g = leaf-paths k (w .strings) (w .suffixes) (w .more) (rw (w .is) at (s .paths)) in
+        let g = leaf-keys k (w .strings) (w .suffixes) (w .more) (rw (w .is) at (s .paths)) (rw (w .is) at (s .rises)) in
         record {
           first = pick (takes q) (map (under (join k (w .strings))) (w .suffixes));
           second = found (reaches q) (takes q) above k (w .more);
@@ -191,7 +115,7 @@ module _ {q : Query} {above : Above} {depth : ℕ} {k : Strings} {t : List ℕ} 
           behind = nodesEntered (reaches q) above k (w .more);
           one = record {
             below = 0;
-            has = record { leaf = λ x. rw n record { suffixes = w .suffixes; fixed = w .fixed; paths = g .0; bytes = w .places .body-is; is = refl; entered = refl }; inner = λ x. absurd (x o) };
+            has = record { leaf = λ x. rw n record { suffixes = w .suffixes; fixed = w .fixed; paths = g .0 .0; rises = g .0 .1; bytes = w .places .body-is; is = refl; entered = refl }; inner = λ x. absurd (x o) };
             is = refl;
           };
           other = record {
@@ -201,7 +125,8 @@ module _ {q : Query} {above : Above} {depth : ℕ} {k : Strings} {t : List ℕ} 
               sound = u .1;
               high = leaf-high depth (w .strings) (w .suffixes) (w .more) (rw (w .is) at (s .high));
               nodes-fit = leaf-roomy k (w .strings) (w .suffixes) (w .more) (rw (w .is) at (s .nodes-fit)) .1;
-              paths = g .1;
+              paths = g .1 .0;
+              rises = g .1 .1;
               bytes = w .places .rest-is;
               is = refl;
               entered = refl;
@@ -220,7 +145,7 @@ module _ {q : Query} {above : Above} {depth : ℕ} {k : Strings} {t : List ℕ} 
         let m = inner-roomy k (w .strings) (w .dimension) (w .children) (w .more) (rw (w .is) at (s .nodes-fit)) in
         let a : over kind ≡ below (w .dimension) = over-inner kind (w .dimension) (w .branches) byte in
         let u = inner-sound above (w .dimension) (w .strings) (w .children) (w .more) (rw (w .is) at (s .sound)) in
-        let g = inner-paths k (w .strings) (w .dimension) (w .children) (w .more) (rw (w .is) at (s .paths)) in
+        let g = inner-keys k (w .strings) (w .dimension) (w .children) (w .more) (rw (w .is) at (s .paths)) (rw (w .is) at (s .rises)) in
         record {
           first = found (reaches q) (takes q) (below (w .dimension)) (join k (w .strings)) (w .children);
           second = found (reaches q) (takes q) above k (w .more);
@@ -230,12 +155,12 @@ module _ {q : Query} {above : Above} {depth : ℕ} {k : Strings} {t : List ℕ} 
             below = nodesEntered (reaches q) (below (w .dimension)) (join k (w .strings)) (w .children);
             has = record {
               leaf = λ x. absurd (o x);
-              inner = λ x. rw (n, a) record { tries = w .children; regular = w .lower; sound = u .1; high = i .0; nodes-fit = m .1; paths = g .0; bytes = w .places .body-is; is = refl; entered = refl };
+              inner = λ x. rw (n, a) record { tries = w .children; regular = w .lower; sound = u .1; high = i .0; nodes-fit = m .1; paths = g .0 .0; rises = g .0 .1; bytes = w .places .body-is; is = refl; entered = refl };
             };
             is = refl;
           };
           other = record {
-            found = record { tries = w .more; regular = w .shaped; sound = u .2; high = i .1; nodes-fit = m .2; paths = g .1; bytes = w .places .rest-is; is = refl; entered = refl };
+            found = record { tries = w .more; regular = w .shaped; sound = u .2; high = i .1; nodes-fit = m .2; paths = g .1 .0; rises = g .1 .1; bytes = w .places .rest-is; is = refl; entered = refl };
             node = rw n (u .0);
             entered = y;
           };
@@ -253,14 +178,15 @@ module _ {q : Query} {above : Above} {depth : ℕ} {k : Strings} {t : List ℕ} 
         let w = leaf-view kind path start next t (s .tries) (s .regular) (s .bytes) h o in
         let f = leaf-out (reaches q) (takes q) above k (w .strings) (w .more) (w .suffixes) (rw (strings-are (w .places) (w .wide)) at y) in
         let u = leaf-sound above (w .strings) (w .suffixes) (w .more) (rw (w .is) at (s .sound)) in
-        let g = leaf-paths k (w .strings) (w .suffixes) (w .more) (rw (w .is) at (s .paths)) in
+        let g = leaf-keys k (w .strings) (w .suffixes) (w .more) (rw (w .is) at (s .paths)) (rw (w .is) at (s .rises)) in
         record {
           tries = w .more;
           regular = w .shaped;
           sound = u .1;
           high = leaf-high depth (w .strings) (w .suffixes) (w .more) (rw (w .is) at (s .high));
           nodes-fit = leaf-roomy k (w .strings) (w .suffixes) (w .more) (rw (w .is) at (s .nodes-fit)) .1;
-          paths = g .1;
+          paths = g .1 .0;
+          rises = g .1 .1;
           bytes = w .places .rest-is;
           is = s .is ∙ ap (found (reaches q) (takes q) above k) (w .is) ∙ f .0;
           entered = s .entered ∙ ap (nodesEntered (reaches q) above k) (w .is) ∙ f .1;
@@ -269,14 +195,15 @@ module _ {q : Query} {above : Above} {depth : ℕ} {k : Strings} {t : List ℕ} 
         let w = inner-view kind path start next t (s .tries) (s .regular) (s .bytes) h o in
         let f = inner-out (reaches q) (takes q) above k (w .strings) (w .more) (w .dimension) (w .children) (rw (strings-are (w .places) (w .wide)) at y) in
         let u = inner-sound above (w .dimension) (w .strings) (w .children) (w .more) (rw (w .is) at (s .sound)) in
-        let g = inner-paths k (w .strings) (w .dimension) (w .children) (w .more) (rw (w .is) at (s .paths)) in
+        let g = inner-keys k (w .strings) (w .dimension) (w .children) (w .more) (rw (w .is) at (s .paths)) (rw (w .is) at (s .rises)) in
         record {
           tries = w .more;
           regular = w .shaped;
           sound = u .2;
           high = inner-high depth (w .dimension) (w .strings) (w .children) (w .more) (rw (w .is) at (s .high)) .1;
           nodes-fit = inner-roomy k (w .strings) (w .dimension) (w .children) (w .more) (rw (w .is) at (s .nodes-fit)) .2;
-          paths = g .1;
+          paths = g .1 .0;
+          rises = g .1 .1;
           bytes = w .places .rest-is;
           is = s .is ∙ ap (found (reaches q) (takes q) above k) (w .is) ∙ f .0;
           entered = s .entered ∙ ap (nodesEntered (reaches q) above k) (w .is) ∙ f .1;

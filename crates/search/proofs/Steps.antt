@@ -254,3 +254,12 @@ common-kept {q} {kind} {v} {p} {k} {k'} c e =
 pub span-kept : {q : Query} {n from to : ℕ} (v p : ℕ) (k k' : List ℕ) → Spans q (take v k) n from to → known v p k' ≡ known v p k → Spans q (take v k') n from to
 unfolding known
 span-kept v p k k' s e = let a : take v k' ≡ take v k = cc in rw a s
+
+-- the value bytes known, as strings
+pub known-span : {q : Query} {n from to : ℕ} (v p : ℕ) (k : List ℕ) → Spans q (take v k) n from to → Spans q (at 0 (known v p k)) n from to
+unfolding known
+known-span v p k s = s
+
+pub known-long : (v p : ℕ) (k : List ℕ) → length (at 0 (known v p k)) ≡ length (take v k)
+unfolding known
+known-long v p k = refl

@@ -125,6 +125,7 @@ whole k {q} w =
             high = w .high;
             nodes-fit = nodes-fit 2 root nothing f (w .sound) slots paths;
             paths = paths;
+            rises = w .rises;
             bytes = w .bytes;
             is = w .is ∙ sym (found-root (reaches q) (wants q) f (w .regular)) ∙ found-takes q (reaches q) root nothing f slots;
             entered = w .entered ∙ sym (nodes-root (reaches q) f (w .regular));

@@ -14,7 +14,7 @@ use Rattle.rows.specs.Sizes.{valueSize, rowSize, nodeLimit}
 use Rattle.trie_theory.specs.Forest.{Strings, Key, Forest, none, leaf, inner, join, under, keys}
 use Rattle.trie_theory.specs.Strings.{at}
 use Rattle.trie_theory.specs.Dimensions.{Above, root}
-use Rattle.trie_theory.specs.Sound.{Sound}
+use Rattle.trie_theory.specs.Sound.{Sound, Rising, LeavesRise}
 use Rattle.trie_theory.specs.Size.{height}
 use Rattle.trie_theory.specs.Search.{found, nodesEntered}
 use Rattle.trie_theory.specs.Encode.{Regular, encode}
@@ -37,7 +37,7 @@ pub record Searched (Has : List Key → ℕ → Type 0) (v p room n c : ℕ) (s 
   pub count : d ≡ c + nodes
   pub are : (ks : List Key) (e : ℕ) → Has ks e → (rows .put ≡ ks) × (nodes ≡ e)
 
--- THE TRIE in the bytes t, sound, of keys that have slots and formed paths: the keys that a search finds, and the nodes that it enters
+-- THE TRIE in the bytes t, sound, of keys that have slots and formed paths, their values not descending in a leaf: the keys that a search finds, and the nodes that it enters
 pub record TrieFound (q : Query) (t : List ℕ) (ks : List Key) (e : ℕ) : Type 0 where
   pub tries : Forest
   pub regular : Regular 2 tries
@@ -45,6 +45,7 @@ pub record TrieFound (q : Query) (t : List ℕ) (ks : List Key) (e : ℕ) : Type
   pub high : height tries ≤ nodeLimit
   pub slots : all hasSlot (keys [] tries) ≡ true
   pub paths : All OfPath (keys [] tries)
+  pub rises : LeavesRise tries
   pub bytes : t ≡ encode tries
   pub is : ks ≡ found (reaches q) (wants q) root [] tries
   pub entered : e ≡ nodesEntered (reaches q) root [] tries
@@ -86,6 +87,7 @@ pub record SuffixesFound (q : Query) (k : Strings) (t : List ℕ) (ks : List Key
   pub suffixes : List Key
   pub fixed : All Fixed suffixes
   pub paths : All OfPath (map (under k) suffixes)
+  pub rises : Rising suffixes
   pub bytes : t ≡ suffixesBytes suffixes
   pub is : ks ≡ pick (takes q) (map (under k) suffixes)
   pub entered : e ≡ 0
@@ -97,6 +99,7 @@ pub record TriesFound (q : Query) (above : Above) (depth : ℕ) (k : Strings) (t
   pub high : height tries ≤ depth
   pub nodes-fit : NodesFit k tries
   pub paths : All OfPath (keys k tries)
+  pub rises : LeavesRise tries
   pub bytes : t ≡ encode tries
   pub is : ks ≡ found (reaches q) (takes q) above k tries
   pub entered : e ≡ nodesEntered (reaches q) above k tries

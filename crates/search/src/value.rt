@@ -6,6 +6,8 @@ ghost use mathlib.Core.Path.{_≡_};
 ghost use Prim.Native.Nat.{ℕ, _+_, _-_, _/_, _^_, _≤_, _<_};
 ghost use mathlib.Core.List.{List, _++_};
 ghost use lib.ListN.{length};
+ghost use lib.Dec.{eqb, ltb};
+ghost use mathlib.Core.Bool.{_&&_};
 ghost use Rattle.buffer.specs.Splice.{region};
 ghost use Rattle.buffer.specs.Numbers.{number};
 ghost use Rattle.rows.specs.Sizes.{valueSize};
@@ -142,6 +144,17 @@ pub(crate) fn value_at(from: u64, to: u64, v: usize, b: &[u8], at: usize, end: u
         ⌜ ((q : Query) (k : List ℕ) → length k ≡ v → Spans q k (end - at) from to → r ≡ valueReach q (k ++ region (now (b .entry)) at (end - at))) ⌝ }
 {
     value_told(from, to, number_at(b, at, end), v + (end - at))
+}
+
+// Is a value whole with b[at..end] behind the v bytes known, and their number above `to`?
+pub(crate) fn is_above(to: u64, v: usize, b: &[u8], at: usize, end: usize) -> bool
+    requires { ⌜ (at ≤ end) × (end ≤ length (now b)) × (v ≤ valueSize) ⌝ }
+    ensures { λ r. ⌜ r ≡ eqb (v + (end - at)) valueSize && ltb to (number (region (now (b .entry)) at (end - at))) ⌝ }
+{
+    if v + (end - at) == VALUE_SIZE {
+        return to < number_at(b, at, end);
+    }
+    false
 }
 
 // Can a value whose first bytes are known be in the range? The pattern plays no part.

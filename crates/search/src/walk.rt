@@ -4,6 +4,7 @@ use crate::step::ROOT;
 use crate::step::ask_once;
 use crate::step::descend;
 use crate::step::take_key;
+use crate::value::is_above;
 use crate::value::span_behind;
 use entries::SLOT_SIZE;
 use gather::key::put;
@@ -13,6 +14,7 @@ use rows::sizes::VALUE_SIZE;
 use trie_read::head::Head;
 use trie_read::head::read_head;
 use trie_read::sizes::HEAD_SIZE;
+use trie_read::sizes::SUFFIX_SIZE;
 use trie_read::suffixes::Tail;
 use trie_read::suffixes::read_suffix;
 ghost use mathlib.Core.Path.{_≡_};
@@ -58,6 +60,9 @@ fn suffixes(
     loop {
         match read_suffix(t) {
             Tail::At { path, next } => {
+                if is_above(rest.to, v, t, SUFFIX_SIZE, path) {
+                    return m; // values do not descend in a leaf
+                }
                 if take_key(
                     key,
                     v,

@@ -89,6 +89,7 @@ module _ (q : Query) where
         high = g .high;
         slots = all-test hasSlot (all-imp (λ x h. rowed x h .slot) (g .entries));
         paths = accepted-paths f (g .entries) (g .accepted);
+        rises = g .rises;
         bytes = e;
         is = refl;
         entered = refl;

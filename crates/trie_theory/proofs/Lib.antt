@@ -29,5 +29,7 @@ pub mod SmallKept
 pub mod SmallSound
 pub mod SmallAscending
 pub mod SmallSuffixes
+-- Leaves of both
+pub mod Rising
 -- All of it together
 pub mod TrieOf

@@ -1,12 +1,14 @@
 -- What makes tries sound: the one predicate that levels and small tries meet. Lookups need of siblings only that their
--- branching bytes differ; that they ascend is said apart, and so is that the leaves of a small trie have all bytes of a key.
+-- branching bytes differ; that they ascend is said apart, and so is that the leaves of a small trie have all bytes of a key,
+-- and that the values in a leaf do not descend.
 use Prim.Native.Nat.{ℕ, _≤_}
 use mathlib.Core.Path.{_≡_}
 use mathlib.Core.Bool.{true}
-use mathlib.Core.List.{[]}
+use mathlib.Core.List.{List, [], _∷_}
 use lib.ListN.{length}
 use Rattle.trie_theory.specs.Forest.{Strings, Key, Forest, none, leaf, inner, tops}
 use Rattle.buffer.specs.Lists.{All}
+use Rattle.buffer.specs.Numbers.{number}
 use Rattle.trie_theory.specs.Strings.{at, total}
 use Rattle.trie_theory.specs.Dimensions.{Above, root, below, branching}
 use Rattle.trie_theory.specs.SmallTrie.{precedes}
@@ -44,3 +46,14 @@ unfoldable pub EmptySuffixes : Forest → Type 0
 EmptySuffixes none = Unit {0}
 EmptySuffixes (leaf s ts more) = All (λ t. total (t .strings) ≡ 0) ts × EmptySuffixes more
 EmptySuffixes (inner d s children more) = EmptySuffixes children × EmptySuffixes more
+
+-- keys in a sequence in which their values (dimension 0) do not descend
+unfoldable pub Rising : List Key → Type 0
+Rising [] = Unit {0}
+Rising (x ∷ xs) = All (λ y. number (at 0 (x .strings)) ≤ number (at 0 (y .strings))) xs × Rising xs
+
+-- the suffixes of each leaf do: a level's stand in row sequence, a small trie's have no byte
+unfoldable pub LeavesRise : Forest → Type 0
+LeavesRise none = Unit {0}
+LeavesRise (leaf s ts more) = Rising ts × LeavesRise more
+LeavesRise (inner d s children more) = LeavesRise children × LeavesRise more

@@ -1,5 +1,4 @@
 -- `matcher::reach::one_leads` meets its contract: before `literal` bytes every path that fits has the pattern's. Assumes nothing.
-use borrow.Author.Needs.{needs}
 use borrow.Author.Tests.{ltb-true}
 use Rattle.matcher.proofs.Ruled.{one-byte}
 use Rattle.matcher.proofs.reach.one_leads.Statement.{statement}
