@@ -2,7 +2,7 @@
 use mathlib.Core.Path.{_≡_, refl, sym, ap, ap₂, _∙_}
 use mathlib.Core.List.{List, [], _∷_}
 use mathlib.Core.Bool.{true, false, cond, _&&_, _||_, or-true}
-use Prim.Native.Nat.{ℕ, _<_}
+use Prim.Native.Nat.{ℕ, _≤_, _<_}
 use native.Mathlib.Omega.{arith}
 use lib.ListN.{length, getD}
 use lib.Dec.{eqb, eqb·suc-zero}
@@ -67,3 +67,15 @@ last-cut k b e = rw (no-labels (back k b) (length-back k b ∙ omega arith))
 
 pub other-cut : (k : List ℕ) (b : ℕ) → Cut k b → (b ≡ length k → ⊥) → none (labelsOf (back k b)) ≡ false
 other-cut k b h f = some-labels (back k b) (λ e. let l = length-back k b in let m = h .high in f (omega arith)) (h .begun)
+
+-- behind a first `**` all may follow
+pub deep-first : (p : List ℕ) → 4 ≤ length p → getD p 0 0 ≡ slash → getD p 1 0 ≡ star → getD p 2 0 ≡ star → getD p 3 0 ≡ slash → (ks : List (List ℕ)) → beginsLabels (labelsOf p) ks ≡ true
+deep-first [] l a b c d ks = absurd (omega arith)
+deep-first (x ∷ []) l a b c d ks = absurd (omega arith)
+deep-first (x ∷ y ∷ []) l a b c d ks = absurd (omega arith)
+deep-first (x ∷ y ∷ z ∷ []) l a b c d ks = absurd (omega arith)
+deep-first (x ∷ y ∷ z ∷ w ∷ p) l a b c d ks = ap (λ (q : List ℕ). beginsLabels (labelsOf q) ks) (λ i. a i ∷ b i ∷ c i ∷ d i ∷ p) ∙ any ks
+  where
+    any : (ks : List (List ℕ)) → beginsLabels (labelsOf (slash ∷ star ∷ star ∷ slash ∷ p)) ks ≡ true
+    any [] = refl
+    any (k ∷ ks) = refl
