@@ -7,8 +7,8 @@
  * Each call returns a number and two values. The number is 0 where the call was accepted, else that of the first reason that holds, in the
  * sequence given at the call. A refused call changes no memory and returns two zeros (11: the row count and zero). 100, already there, is no refusal.
  *
- * Every call returns, within the bytes it was lent, on any bytes, those of a damaged store included; the rows of a damaged store may have any path of at
- * most 200 bytes. What no call checks, and the caller sees to:
+ * Every call returns, within the bytes it was lent, on any bytes, those of a damaged store included; the rows of a damaged store may hold any bytes: hold a
+ * path's length to 200 before use. What no call checks, and the caller sees to:
  *   - A pointer and the length behind it name bytes that may be read, and written where the pointer is not const, while the call runs.
  *   - No pointer is NULL. With the length 0 any other pointer may stand, such as that of a variable; nothing is read or written through it.
  *   - Each length is below 2^63.

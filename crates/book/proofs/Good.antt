@@ -17,7 +17,7 @@ use Rattle.trie_theory.specs.Dimensions.{root}
 use Rattle.trie_theory.specs.Sound.{Ascending, EmptySuffixes, Rising, LeavesRise}
 use Rattle.trie_theory.specs.SmallTrie.{smallTrie}
 use Rattle.trie_theory.proofs.TrieOf.{level-entries, small-entries, figures}
-use Rattle.trie_theory.proofs.Rising.{Even, rising-front, level-rises, empty-rises}
+use Rattle.trie_theory.proofs.Rising.{ValueOf, rising-front, level-rises, empty-rises}
 use Rattle.entries.specs.Keys.{entryKey}
 use Rattle.book.specs.Digits.{level, small}
 use Rattle.book.specs.Book.{formed}
@@ -25,7 +25,7 @@ use Rattle.book.specs.Tries.{dimensions, levelTrie, tries}
 use Rattle.book.specs.Good.{Tries-Good}
 use Rattle.book.proofs.Keys.{as-formed, keys-entries}
 use Rattle.book.proofs.Image.{level-formed, small-formed, small-trie-of, level-trie-of, image-fits}
-use Rattle.book.proofs.OverTries.{small-for, level-for, accepted-in}
+use Rattle.book.proofs.OverTries.{small-for, level-for, allowed-in}
 
 -- in row sequence the keys' values do not descend
 keys-rise : (es : List Entry) → all formed es ≡ true → ascending entryOrder es ≡ true → Rising (map entryKey es)
@@ -48,9 +48,9 @@ module _ (es : List Entry) (h : all formed es ≡ true) where
   level-shape τ =
       let ds = sorted entryOrder es in
       let f = all-sorted entryOrder formed es h in
-      let even : All (Even valueSize) (map entryKey ds) = all-map entryKey (λ e t. length-bytesOf valueSize (e .value)) (all-tested formed ds f) in
+      let long : All (ValueOf valueSize) (map entryKey ds) = all-map entryKey (λ e t. length-bytesOf valueSize (e .value)) (all-tested formed ds f) in
       let rising = keys-rise ds f (ascending-sorted entryOrder _ entry-order es) in
-      (level-entries (map entryKey ds) (keys-entries ds f) τ .1, level-rises valueSize dimensions τ (map entryKey ds) rising even)
+      (level-entries (map entryKey ds) (keys-entries ds f) τ .1, level-rises valueSize dimensions τ (map entryKey ds) rising long)
 
 pub tries-good : Tries-Good
 unfolding tries
@@ -66,7 +66,7 @@ tries-good b s =
         ascending = shape .0;
         rises = empty-rises (smallTrie (map entryKey es)) (shape .1);
         entries = g .entries;
-        accepted = accepted-in g f;
+        allowed = allowed-in g f;
         high = figures (small-trie-of es f) .1;
         fits = fit .small;
       };
@@ -81,7 +81,7 @@ tries-good b s =
             ascending = shape .0;
             rises = shape .1;
             entries = r .entries;
-            accepted = accepted-in r k;
+            allowed = allowed-in r k;
             high = figures (level-trie-of ds k (b .τ)) .1;
             fits = fit .levels i l;
           });

@@ -103,9 +103,9 @@ keys-count {es} {t} r p =
     count-map p keyEntry (keys [] t) ∙ r .kept (λ x. p (keyEntry x))
     ∙ count-agree (λ e. p (keyEntry (entryKey e))) p (all-every es (λ e. ap p (key-entry e)))
 
--- none but accepted ones
-pub accepted-in : {es : List Entry} {t : Forest} → TrieFor es t → all formed es ≡ true → all formed (entriesOf t) ≡ true
-accepted-in {es} {t} r f = all-test formed (count-none formed (entriesOf t) (keys-count r (λ e. not (formed e)) ∙ none-count formed (all-tested formed es f)))
+-- none but allowed ones
+pub allowed-in : {es : List Entry} {t : Forest} → TrieFor es t → all formed es ≡ true → all formed (entriesOf t) ≡ true
+allowed-in {es} {t} r f = all-test formed (count-none formed (entriesOf t) (keys-count r (λ e. not (formed e)) ∙ none-count formed (all-tested formed es f)))
 
 pub found-count : {es : List Entry} {t : Forest} (q : Query) → TrieFor es t → all formed es ≡ true → (p : Entry → Bool)
     → count p (foundOf q t) ≡ count p (pick (matchesEntry q) es)

@@ -18,13 +18,13 @@ use Rattle.book.specs.Book.{Book, Sound, front, formed}
 use Rattle.book.specs.FromTries.{entriesOf}
 use Rattle.book.specs.Tries.{Tries, dimensions, tries}
 
--- a sound trie of keys of accepted entries, whose siblings ascend, in whose leaves values do not descend, at most 210 nodes deep, with room in its region
+-- a sound trie of keys of allowed entries, whose siblings ascend, in whose leaves values do not descend, at most 210 nodes deep, with room in its region
 pub record Good (room : ℕ) (t : Forest) : Type 0 where
   pub sound : Trie.Sound dimensions root t
   pub ascending : Trie.Ascending root t
   pub rises : Trie.LeavesRise t
   pub entries : All Key.OfEntry (keys [] t)
-  pub accepted : all formed (entriesOf t) ≡ true
+  pub allowed : all formed (entriesOf t) ≡ true
   pub high : height t ≤ nodeLimit
   pub fits : length (encode t) ≤ room
 

@@ -55,12 +55,12 @@ pub labels-more : (p k : List ℕ) (a b : ℕ) → Cut p a → Cut k b
 labels-more p k a b h g = ap₂ beginsLabels (h .labels) (g .labels)
 
 -- a first `**` takes all
+deep-begins : (p : List ℕ) (ps ks : List (List ℕ)) → deep p ≡ true → beginsLabels (p ∷ ps) ks ≡ true
+deep-begins p ps [] e = refl
+deep-begins p ps (k ∷ ks) e = rw e
+
 pub labels-deep : (p k : List ℕ) (a : ℕ) → Cut p a → deep (front p a) ≡ true → beginsLabels (labelsOf p) (labelsOf k) ≡ true
-labels-deep p k a h e = ap (λ (l : List (List ℕ)). beginsLabels l (labelsOf k)) (h .labels) ∙ go (labelsOf k)
-  where
-    go : (ks : List (List ℕ)) → beginsLabels (front p a ∷ labelsOf (back p a)) ks ≡ true
-    go [] = refl
-    go (x ∷ ks) = rw e
+labels-deep p k a h e = ap (λ (l : List (List ℕ)). beginsLabels l (labelsOf k)) (h .labels) ∙ deep-begins (front p a) (labelsOf (back p a)) (labelsOf k) e
 
 pub last-cut : (k : List ℕ) (b : ℕ) → b ≡ length k → none (labelsOf (back k b)) ≡ true
 last-cut k b e = rw (no-labels (back k b) (length-back k b ∙ omega arith))
@@ -68,14 +68,10 @@ last-cut k b e = rw (no-labels (back k b) (length-back k b ∙ omega arith))
 pub other-cut : (k : List ℕ) (b : ℕ) → Cut k b → (b ≡ length k → ⊥) → none (labelsOf (back k b)) ≡ false
 other-cut k b h f = some-labels (back k b) (λ e. let l = length-back k b in let m = h .high in f (omega arith)) (h .begun)
 
--- behind a first `**` all may follow
+-- the same by four bytes
 pub deep-first : (p : List ℕ) → 4 ≤ length p → getD p 0 0 ≡ slash → getD p 1 0 ≡ star → getD p 2 0 ≡ star → getD p 3 0 ≡ slash → (ks : List (List ℕ)) → beginsLabels (labelsOf p) ks ≡ true
 deep-first [] l a b c d ks = absurd (omega arith)
 deep-first (x ∷ []) l a b c d ks = absurd (omega arith)
 deep-first (x ∷ y ∷ []) l a b c d ks = absurd (omega arith)
 deep-first (x ∷ y ∷ z ∷ []) l a b c d ks = absurd (omega arith)
-deep-first (x ∷ y ∷ z ∷ w ∷ p) l a b c d ks = ap (λ (q : List ℕ). beginsLabels (labelsOf q) ks) (λ i. a i ∷ b i ∷ c i ∷ d i ∷ p) ∙ any ks
-  where
-    any : (ks : List (List ℕ)) → beginsLabels (labelsOf (slash ∷ star ∷ star ∷ slash ∷ p)) ks ≡ true
-    any [] = refl
-    any (k ∷ ks) = refl
+deep-first (x ∷ y ∷ z ∷ w ∷ p) l a b c d ks = ap (λ (q : List ℕ). beginsLabels (labelsOf q) ks) (λ i. a i ∷ b i ∷ c i ∷ d i ∷ p) ∙ deep-begins (star ∷ star ∷ []) (labelsOf (slash ∷ p)) ks refl

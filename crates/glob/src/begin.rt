@@ -57,7 +57,7 @@ fn labels_begin(pattern: &[u8], known: &[u8]) -> bool
 }
 
 // Is the first label of a pattern a `**`, with others behind it? Then any labels can go on to fit. Four bytes tell, without a label being cut off: a search
-// asks it of every child.
+// may ask it of each child.
 fn leads_deep(pattern: &[u8]) -> bool
     ensures { λ r. ⌜ (r ≡ true → (ks : List (List ℕ)) → beginsLabels (labelsOf (now (pattern .entry))) ks ≡ true) ⌝ }
 {

@@ -297,7 +297,7 @@ fn descend(pattern: &[u8], path: &[u8]) -> Trial
     Trial::Never // `**` has taken all labels
 }
 
-// Do the labels of a path fit those of a pattern? For callers that check both themselves, before or after: nothing is checked here. Of any
+// Do the labels of a path fit those of a pattern? For callers that know both to be formed, or test that themselves: nothing is checked here. Of any
 // bytes it answers by their labels, which begin at the first `/`. The stack goes as deep as the pattern has bytes.
 pub fn fits_formed(pattern: &[u8], path: &[u8]) -> bool
     ensures { λ r. ⌜ r ≡ fitsPath (now (pattern .entry)) (now (path .entry)) ⌝ }

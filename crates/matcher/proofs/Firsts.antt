@@ -17,10 +17,10 @@ use Rattle.matcher.specs.Form.{formedPath}
 use Rattle.matcher.specs.Continued.{ended, FirstBytes}
 use Rattle.matcher.specs.Reach.{beginsPath, isFirst}
 use Rattle.matcher.proofs.Apart.{lastByte}
-use Rattle.matcher.proofs.Prefixes.{begins-of, last-of, before-last, closed-path, open-path}
+use Rattle.matcher.proofs.Prefixes.{begins-of, opened, last-of, before-last, closed-path, open-path}
 
 -- bytes with the end byte last, and others
-pub ended-last : (known : List ℕ) → ended known ≡ true → (length known ≡ 0 → ⊥) × (lastByte known ≡ endByte)
+ended-last : (known : List ℕ) → ended known ≡ true → (length known ≡ 0 → ⊥) × (lastByte known ≡ endByte)
 ended-last [] e = not-both e refl
 ended-last (c ∷ k) e = ((λ z. absurd (omega arith)), eqb-true (lastByte (c ∷ k)) endByte e)
 
@@ -78,9 +78,25 @@ module _ (known : List ℕ) (f : FirstBytes known) where
   pub longer-path : ended known ≡ false → (n : List ℕ) × (known ++ n ≡ f .path)
   longer-path e = open-path known (f .path) (f .more) (f .is-path) (f .goes-on) (λ z. not-both (ap ended z ∙ ended-whole (f .path)) e)
 
+  -- THE TEST HOLDS OF THEM
   pub first-tested : isFirst known ≡ true
   first-tested = go (ended known) refl
     where
       go : (d : Bool) → ended known ≡ d → cond d (formedPath (take (length known - 1) known)) (beginsPath known) ≡ true
       go true e = ap formedPath (whole-path e) ∙ f .is-path
       go false e = let n = longer-path e in begins-of known (n .0) (f .path) (n .1) (f .is-path)
+
+-- and of no others
+pub tested-first : (known : List ℕ) → isFirst known ≡ true → FirstBytes known
+tested-first known h = go (ended known) refl
+  where
+    go : (d : Bool) → ended known ≡ d → FirstBytes known
+    go true e = record { path = take (length known - 1) known; is-path = rw e at h; more = []; goes-on = append-nil known ∙ last-split known e }
+    go false e =
+        let o = opened known (rw e at h) in
+        record {
+          path = o .path;
+          is-path = o .is-path;
+          more = o .more ++ (endByte ∷ []);
+          goes-on = sym (append-assoc known (o .more) (endByte ∷ [])) ∙ ap (λ (s : List ℕ). s ++ (endByte ∷ [])) (o .goes-on);
+        }

@@ -75,8 +75,8 @@ differs-first : (l : List ℕ) (c n p : ℕ) → p < length l → 0 < n → (c �
 differs-first l c zero p h m f = absurd (omega arith)
 differs-first l c (suc n) p h m f = rw (drop-cons l p 0 h, ne-eqb (getD l p 0) c (λ e. f (sym e)))
 
-pub one-byte : (pattern : List ℕ) (literal p : ℕ) (r : Bool) → (r ≡ true → p < literal) → OneLeads pattern literal p r
-one-byte pattern literal p r inside = record {
+pub leads-alone : (pattern : List ℕ) (literal p : ℕ) (r : Bool) → (r ≡ true → p < literal) → OneLeads pattern literal p r
+leads-alone pattern literal p r inside = record {
   others = λ h e known is c f.
       let l = inside e in
       ruled-out pattern known (c ∷ []) literal h (omega arith) (differs-first pattern c (literal - length known) (length known) (omega (arith, h .in-pattern)) (omega arith) (rw is f));

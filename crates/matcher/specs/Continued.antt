@@ -19,7 +19,7 @@ pub record FirstBytes (known : List ℕ) : Type 0 where
   pub more : List ℕ
   pub goes-on : known ++ more ≡ path ++ (endByte ∷ [])
 
--- and the path fits the pattern, which is formed
+-- the bytes known can be continued to a path that fits the pattern, which is formed
 pub record Continued (pattern known : List ℕ) : Type 0 where
   pub is-pattern : isFine (patternForm pattern) ≡ true
   pub first : FirstBytes known

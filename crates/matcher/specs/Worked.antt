@@ -73,6 +73,26 @@ whole = known (text "/**/edge") (text "/north" ++ (endByte ∷ []))
 abbrev begun : Case
 begun = known (text "/**/edge") (text "/north")
 
+-- no byte known can be continued; what no path begins with cannot: an empty label, the byte 7F, an end byte inside or behind a `/`
+abbrev nothing : Case
+nothing = known (text "/*") []
+
+abbrev empty-label : Case
+empty-label = known (text "/**") (text "//")
+
+abbrev no-label-byte : Case
+no-label-byte = known (text "/**") (text "/" ++ (127 ∷ []))
+
+abbrev ended-inside : Case
+ended-inside = known (text "/**") (text "/a" ++ (endByte ∷ text "b"))
+
+abbrev ended-empty : Case
+ended-empty = known (text "/a/*") (text "/a/" ++ (endByte ∷ []))
+
+pub worked-form : map decided (nothing ∷ empty-label ∷ no-label-byte ∷ ended-inside ∷ ended-empty ∷ []) ≡ true ∷ false ∷ false ∷ false ∷ false ∷ []
+unfolding labelByte fit pathForm patternForm matches reachOf
+worked-form = refl
+
 pub worked-known : map decided (first-byte ∷ label-more ∷ star-label-more ∷ longer ∷ whole ∷ begun ∷ []) ≡ true ∷ false ∷ false ∷ true ∷ false ∷ true ∷ []
 unfolding labelByte fit pathForm patternForm matches reachOf
 worked-known = refl

@@ -2,11 +2,9 @@
 use crate::form::check_path;
 use crate::form::check_pattern;
 use crate::form::is_fine;
+use glob::fit::fits_formed;
 ghost use mathlib.Core.Path.{_≡_};
 ghost use Rattle.matcher.specs.Matches.{matches};
-
-// For callers that check both themselves.
-pub use glob::fit::fits_formed;
 
 // Does a path match a pattern? False where either is not formed. For callers that have checked neither, as the sprayer's filter.
 pub fn fits(pattern: &[u8], path: &[u8]) -> bool

@@ -86,9 +86,9 @@ module _ {q : Query} {above : Above} {depth : ℕ} {k : Strings} {t : List ℕ} 
   tries-bad z ks e s = absurd (head-good (s .tries) (sym z ∙ is (s .tries) (s .regular) (s .bytes)))
 
   module _ (kind path start next : ℕ) (z : r ≡ Head.Node kind path start next) where
-    -- the strings have room
-    pub tries-short : (ks : List Key) (e : ℕ) → TriesFound q above depth k t ks e → AtNode (join k (part 7 path t ∷ part path start t ∷ []))
-    tries-short ks e s =
+    -- the strings have room, and the path known begins one
+    pub tries-node : (ks : List Key) (e : ℕ) → TriesFound q above depth k t ks e → AtNode (join k (part 7 path t ∷ part path start t ∷ []))
+    tries-node ks e s =
         let h = sym z ∙ is (s .tries) (s .regular) (s .bytes) in
         ⊎-elim
         (λ (y : kind ≡ 0). let w = leaf-view kind path start next t (s .tries) (s .regular) (s .bytes) h y in
@@ -234,11 +234,12 @@ module _ {Has : List Key → ℕ → Type 0} {q : Query} {kind depth v p room n 
   abbrev room? : Bool
   room? = leb (v + (path - 7)) valueSize && leb (p + (start - path)) endedLimit
 
-  -- the node is entered
+  -- the path known there
   now-first : AtNode (join (known v p k₀) (part 7 path t ∷ part path start t ∷ [])) → FirstBytes (region k pathAt p ++ part path start t)
   now-first h =
       subst FirstBytes (ap (λ (y : Strings). at 1 (join y (part 7 path t ∷ part path start t ∷ []))) (sym (l .rows .kept)) ∙ node-path v p k (part 7 path t) (part path start t)) (h .1)
 
+  -- the node is entered
   entered-now : b ≡ true → AtNode (join (known v p k₀) (part 7 path t ∷ part path start t ∷ [])) → enters (reaches q) (over kind) (known v p k₀) (part 7 path t ∷ part path start t ∷ []) ≡ true
   entered-now y h = sym enters-now ∙ and-right room? _ (sym (down .is (now-first h)) ∙ y)
 
@@ -267,7 +268,7 @@ module _ {Has : List Key → ℕ → Type 0} {q : Query} {kind depth v p room n 
         count = omega (arith, i .count);
         are = λ ks a o. let z = i .are ks (o .below) (rw below (o .has)) in (z .0, omega (arith, z .1, o .is));
       })
-      (λ ks a h. tries-in is own path start next e byte (entered-now y (tries-short is own path start next e ks a h)) ks a h)
+      (λ ks a h. tries-in is own path start next e byte (entered-now y (tries-node is own path start next e ks a h)) ks a h)
 
   pub siblings-in : {s' k' : List ℕ} {m' d' : ℕ} → own < rootKind → b ≡ true → Lower s' k' m' d'
       → Finding Has (TriesFound q (over kind) depth (known v p k₀) (part next (length t) t)) v p room n c s₀ k₀ s' k' m' d'
@@ -297,7 +298,7 @@ module _ {Has : List Key → ℕ → Type 0} {q : Query} {kind depth v p room n 
       out : (ks : List Key) (a : ℕ) → TriesFound q (over kind) depth (known v p k₀) t ks a
           → enters (reaches q) (over kind) (known v p k₀) (part 7 path t ∷ part path start t ∷ []) ≡ false
       out ks a h =
-          let node = tries-short is own path start next e ks a h in
+          let node = tries-node is own path start next e ks a h in
           let fits = short-room k₀ (part 7 path t) (part path start t) v p long lv lp (node .0) in
           let value = length-part t 7 path (omega arith) in
           let rest = length-part t path start inside in

@@ -1,4 +1,4 @@
--- A sound trie whose keys have slots: its nodes have room, and what the walk finds is what a search of it finds. Assumes nothing.
+-- A sound trie whose keys have slots and formed paths: its nodes have room, what is known there begins a path, and what the walk finds is what a search of it finds. Assumes nothing.
 use mathlib.Core.Path.{_≡_, refl, sym, ap, ap₂, subst, _∙_}
 use mathlib.Core.Bool.{Bool, true, cond}
 use Prim.Native.Nat.{ℕ, _+_, _≤_}
@@ -29,37 +29,37 @@ use Rattle.search.specs.Searches.{OfPath, Searched, TrieSearched, TrieFo
 
 -- ---- room
 
-short-join : (k s : Strings) → AtNode (join k s) → AtNode k
-short-join k s h = ((omega (arith, h .0 .0, join-longer 0 k s), omega (arith, h .0 .1, join-longer 1 k s)), first-before (at 1 k) (at 1 s) (subst FirstBytes (at-join 1 k s) (h .1)))
+node-join : (k s : Strings) → AtNode (join k s) → AtNode k
+node-join k s h = ((omega (arith, h .0 .0, join-longer 0 k s), omega (arith, h .0 .1, join-longer 1 k s)), first-before (at 1 k) (at 1 s) (subst FirstBytes (at-join 1 k s) (h .1)))
 
-short-under : (k : Strings) (x : Key) → hasSlot (under k x) ≡ true → OfPath (under k x) → AtNode k
+node-under : (k : Strings) (x : Key) → hasSlot (under k x) ≡ true → OfPath (under k x) → AtNode k
 unfolding under
-short-under k x h f = let w = slotted (under k x) h in short-join k (x .strings) ((omega (arith, w .value), w .short), f)
+node-under k x h f = let w = slotted (under k x) h in node-join k (x .strings) ((omega (arith, w .value), w .short), f)
 
-short-leaf : (k : Strings) (ts : List Key) → 1 ≤ length ts → all hasSlot (map (under k) ts) ≡ true → All OfPath (map (under k) ts) → AtNode k
-short-leaf k [] l h a = absurd (omega arith)
-short-leaf k (t ∷ ts) l h a = short-under k t (and-left (hasSlot (under k t)) (all hasSlot (map (under k) ts)) h) (all-head a)
+node-leaf : (k : Strings) (ts : List Key) → 1 ≤ length ts → all hasSlot (map (under k) ts) ≡ true → All OfPath (map (under k) ts) → AtNode k
+node-leaf k [] l h a = absurd (omega arith)
+node-leaf k (t ∷ ts) l h a = node-under k t (and-left (hasSlot (under k t)) (all hasSlot (map (under k) ts)) h) (all-head a)
 
 -- the bytes known above tries that are not empty
-short-tries : (n : ℕ) (above : Above) (k : Strings) (f : Forest) → Sound n above f → 1 ≤ length (tops f) → all hasSlot (keys k f) ≡ true → All OfPath (keys k f) → AtNode k
+node-tries : (n : ℕ) (above : Above) (k : Strings) (f : Forest) → Sound n above f → 1 ≤ length (tops f) → all hasSlot (keys k f) ≡ true → All OfPath (keys k f) → AtNode k
 unfolding Sound keys tops
-short-tries n above k none s l h a = absurd (omega arith)
-short-tries n above k (leaf c ts more) s l h a =
-    short-join k c (short-leaf (join k c) ts (s .1) (tested-left hasSlot (map (under (join k c)) ts) (keys k more) h) (all-left (map (under (join k c)) ts) (keys k more) a))
-short-tries n above k (inner d c children more) s l h a =
-    short-join k c (short-tries n (below d) (join k c) children (s .2) (omega (arith, s .1)) (tested-left hasSlot (keys (join k c) children) (keys k more) h) (all-left (keys (join k c) children) (keys k more) a))
+node-tries n above k none s l h a = absurd (omega arith)
+node-tries n above k (leaf c ts more) s l h a =
+    node-join k c (node-leaf (join k c) ts (s .1) (tested-left hasSlot (map (under (join k c)) ts) (keys k more) h) (all-left (map (under (join k c)) ts) (keys k more) a))
+node-tries n above k (inner d c children more) s l h a =
+    node-join k c (node-tries n (below d) (join k c) children (s .2) (omega (arith, s .1)) (tested-left hasSlot (keys (join k c) children) (keys k more) h) (all-left (keys (join k c) children) (keys k more) a))
 
 pub nodes-fit : (n : ℕ) (above : Above) (k : Strings) (f : Forest) → Sound n above f → all hasSlot (keys k f) ≡ true → All OfPath (keys k f) → NodesFit k f
 unfolding Sound keys NodesFit
 nodes-fit n above k none s h a = tt
 nodes-fit n above k (leaf c ts more) s h a =
     let xs = map (under (join k c)) ts in
-    (short-leaf (join k c) ts (s .1) (tested-left hasSlot xs (keys k more) h) (all-left xs (keys k more) a), nodes-fit n above k more (s .3) (tested-right hasSlot xs (keys k more) h) (all-right xs (keys k more) a))
+    (node-leaf (join k c) ts (s .1) (tested-left hasSlot xs (keys k more) h) (all-left xs (keys k more) a), nodes-fit n above k more (s .3) (tested-right hasSlot xs (keys k more) h) (all-right xs (keys k more) a))
 nodes-fit n above k (inner d c children more) s h a =
     let xs = keys (join k c) children in
     let own = tested-left hasSlot xs (keys k more) h in
     let path = all-left xs (keys k more) a in (
-      short-tries n (below d) (join k c) children (s .2) (omega (arith, s .1)) own path,
+      node-tries n (below d) (join k c) children (s .2) (omega (arith, s .1)) own path,
       nodes-fit n (below d) (join k c) children (s .2) own path,
       nodes-fit n above k more (s .3) (tested-right hasSlot xs (keys k more) h) (all-right xs (keys k more) a),
     )

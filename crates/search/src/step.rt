@@ -1,6 +1,6 @@
 // The steps of a search. The key buffer of a walk (crate gather) has the known bytes. What is the same for all children of a node, or for all suffixes
 // of a leaf, is asked once; of a child or a suffix the value is asked first, and its bytes are copied only where they are needed. The form of paths is not
-// looked at: those of a store that our calls left are formed, and of other bytes a step answers by their labels.
+// looked at: those of a store that our calls left are formed, and of other bytes nothing is said of an answer.
 use crate::value::Span;
 use crate::value::span_behind;
 use crate::value::value_at;

@@ -146,7 +146,7 @@ pub(crate) fn value_at(from: u64, to: u64, v: usize, b: &[u8], at: usize, end: u
     value_told(from, to, number_at(b, at, end), v + (end - at))
 }
 
-// Is a value whole with b[at..end] behind the v bytes known, and their number above `to`?
+// Is a value whole with b[at..end] behind the v bytes known, and the number of b[at..end] above `to`?
 pub(crate) fn is_above(to: u64, v: usize, b: &[u8], at: usize, end: usize) -> bool
     requires { ⌜ (at ≤ end) × (end ≤ length (now b)) × (v ≤ valueSize) ⌝ }
     ensures { λ r. ⌜ r ≡ eqb (v + (end - at)) valueSize && ltb to (number (region (now (b .entry)) at (end - at))) ⌝ }

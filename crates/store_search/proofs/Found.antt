@@ -36,7 +36,7 @@ use Rattle.store.specs.Parts.{numbered, upTo, PartOf}
 use Rattle.store.proofs.Powers.{power-most, product-most}
 use Rattle.store.proofs.Places.{upTo-next, good-regular, good-numbered}
 use Rattle.store_search.specs.Listing.{foundUpTo, nodesUpTo, TriesSearched}
-use Rattle.store_search.proofs.Keys.{rowed, accepted-paths}
+use Rattle.store_search.proofs.Keys.{rowed, allowed-paths}
 
 -- ---- one trie after another
 
@@ -88,7 +88,7 @@ module _ (q : Query) where
         sound = g .sound;
         high = g .high;
         slots = all-test hasSlot (all-imp (λ x h. rowed x h .slot) (g .entries));
-        paths = accepted-paths f (g .entries) (g .accepted);
+        paths = allowed-paths f (g .entries) (g .allowed);
         rises = g .rises;
         bytes = e;
         is = refl;

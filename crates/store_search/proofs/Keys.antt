@@ -24,9 +24,9 @@ path-first : (e : Entry) → formed e ≡ true → OfPath (entryKey e)
 unfolding entryKey
 path-first e h = first-whole (e .path) (fine-path (e .path) (as-formed e h .path))
 
-pub accepted-paths : (t : Forest) → All Key.OfEntry (keys [] t) → all formed (entriesOf t) ≡ true → All OfPath (keys [] t)
+pub allowed-paths : (t : Forest) → All Key.OfEntry (keys [] t) → all formed (entriesOf t) ≡ true → All OfPath (keys [] t)
 unfolding entriesOf
-accepted-paths t entries h =
+allowed-paths t entries h =
     all-imp (λ x e. subst OfPath (entry-back x (e .0)) (path-first (keyEntry x) (e .1)))
     (all-both entries (all-unmap keyEntry (λ x e. e) (keys [] t) (all-tested formed (map keyEntry (keys [] t)) h)))
 

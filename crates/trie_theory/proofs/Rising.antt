@@ -32,7 +32,7 @@ pub rising-front : (x y : Key) (ys : List Key) → number (at 0 (x .strings)) �
 unfolding Rising
 rising-front x y ys l r = (cons l (all-imp (λ z m. omega arith) (r .0)), r)
 
-pub rising-pick : (t : Key → Bool) (ks : List Key) → Rising ks → Rising (pick t ks)
+rising-pick : (t : Key → Bool) (ks : List Key) → Rising ks → Rising (pick t ks)
 unfolding Rising pick
 rising-pick t [] r = tt
 rising-pick t (x ∷ xs) r = go (t x) (rising-pick t xs (r .1))
@@ -43,15 +43,15 @@ rising-pick t (x ∷ xs) r = go (t x) (rising-pick t xs (r .1))
 
 module _ (w : ℕ) where
   -- a value of w bytes
-  abbrev pub Even : Key → Type 0
-  Even x = length (at 0 (x .strings)) ≡ w
+  abbrev pub ValueOf : Key → Type 0
+  ValueOf x = length (at 0 (x .strings)) ≡ w
 
   -- keys whose values rise, all of one length
-  abbrev Ready : List Key → Type 0
-  Ready ks = Rising ks × All Even ks
+  abbrev InSequence : List Key → Type 0
+  InSequence ks = Rising ks × All ValueOf ks
 
   -- a value is the number of the bytes p in front of what remains
-  value-split : (p : Strings) (x : Key) → From p x → Even x
+  value-split : (p : Strings) (x : Key) → From p x → ValueOf x
       → number (at 0 (x .strings)) ≡ number (at 0 p) * 256 ^ (w - length (at 0 p)) + number (at 0 (strip p (x .strings)))
   value-split p x f e =
       let s = at-split 0 p (x .strings) f in
@@ -60,53 +60,53 @@ module _ (w : ℕ) where
       rw l at (ap number s ∙ number-append (at 0 p) rest)
 
   -- WHAT REMAINS of keys behind bytes with which all begin
-  pub rising-remains : (p : Strings) {ks : List Key} → All (From p) ks → All Even ks → Rising ks → Rising (map (remains p) ks)
+  rising-remains : (p : Strings) {ks : List Key} → All (From p) ks → All ValueOf ks → Rising ks → Rising (map (remains p) ks)
   unfolding Rising remains
   rising-remains p nil a r = tt
   rising-remains p (cons {x = x} f fs) (cons e es) r =
       let v = value-split p x f e in
       (all-map (remains p) (λ y q. omega (arith, value-split p y (q .1 .0) (q .1 .1))) (all-both (r .0) (all-both fs es)), rising-remains p fs es (r .1))
 
-  ready-pick : (t : Key → Bool) (ks : List Key) → Ready ks → Ready (pick t ks)
-  ready-pick t ks r = (rising-pick t ks (r .0), all-imp (λ y q. q .0) (all-pick t (r .1)))
+  in-sequence-pick : (t : Key → Bool) (ks : List Key) → InSequence ks → InSequence (pick t ks)
+  in-sequence-pick t ks r = (rising-pick t ks (r .0), all-imp (λ y q. q .0) (all-pick t (r .1)))
 
   -- each part of keys is picked from them
-  parts-ready : (d : ℕ) (p : Strings) (f b : ℕ) (ks : List Key) → Ready ks → All Ready (partsFrom d p f b ks)
+  parts-in-sequence : (d : ℕ) (p : Strings) (f b : ℕ) (ks : List Key) → InSequence ks → All InSequence (partsFrom d p f b ks)
   unfolding partsFrom keep filled
-  parts-ready d p zero b ks r = nil
-  parts-ready d p (suc f) b ks r =
-      go (pick (λ x. eqb (byte d p x) b) ks) (ready-pick (λ x. eqb (byte d p x) b) ks r) (parts-ready d p f (suc b) ks r)
+  parts-in-sequence d p zero b ks r = nil
+  parts-in-sequence d p (suc f) b ks r =
+      go (pick (λ x. eqb (byte d p x) b) ks) (in-sequence-pick (λ x. eqb (byte d p x) b) ks r) (parts-in-sequence d p f (suc b) ks r)
     where
-      go : (xs : List Key) → Ready xs → All Ready (partsFrom d p f (suc b) ks) → All Ready (filled xs (partsFrom d p f (suc b) ks))
+      go : (xs : List Key) → InSequence xs → All InSequence (partsFrom d p f (suc b) ks) → All InSequence (filled xs (partsFrom d p f (suc b) ks))
       go [] q rest = rest
       go (x ∷ xs) q rest = cons {x = x ∷ xs} q rest
 
   -- ---- tries of such keys
 
-  each-rises : (g : List Key → Forest → Forest) → ((ks : List Key) (more : Forest) → Ready ks → LeavesRise more → LeavesRise (g ks more))
-      → {ps : List (List Key)} → All Ready ps → LeavesRise (each g ps)
+  each-rises : (g : List Key → Forest → Forest) → ((ks : List Key) (more : Forest) → InSequence ks → LeavesRise more → LeavesRise (g ks more))
+      → {ps : List (List Key)} → All InSequence ps → LeavesRise (each g ps)
   unfolding each LeavesRise
   each-rises g ih nil = tt
   each-rises g ih (cons {x = q} {xs = ps} r a) = ih q (each g ps) r (each-rises g ih a)
 
   -- a node, an inner one if its children's leaves rise
-  node-rises : (k : Strings) (ks : List Key) (o : Option ℕ) (children : ℕ → Forest) (more : Forest) → Ready ks
+  node-rises : (k : Strings) (ks : List Key) (o : Option ℕ) (children : ℕ → Forest) (more : Forest) → InSequence ks
       → ((d : ℕ) → LeavesRise (children d)) → LeavesRise more → LeavesRise (node k ks o children more)
   unfolding node LeavesRise
   node-rises k ks none children more r ih m = (rising-remains (shared ks) (shared-all ks) (r .1) (r .0), m)
   node-rises k ks (some d) children more r ih m = (ih d, m)
 
   module _ (n τ : ℕ) where
-    grow-rises : (f : ℕ) (above : Above) (k : Strings) (ks : List Key) (more : Forest) → Ready ks → LeavesRise more
+    grow-rises : (f : ℕ) (above : Above) (k : Strings) (ks : List Key) (more : Forest) → InSequence ks → LeavesRise more
         → LeavesRise (grow n τ f above k ks more)
     unfolding grow parts LeavesRise
     grow-rises zero above k ks more r m = node-rises k ks none (λ d. Forest.none) more r (λ d. tt) m
     grow-rises (suc f) above k ks more r m =
         node-rises k ks (choice n τ above ks) (children n τ f ks) more r
-        (λ d. each-rises (grow n τ f (below d) (shared ks)) (grow-rises f (below d) (shared ks)) (parts-ready d (shared ks) 256 0 ks r)) m
+        (λ d. each-rises (grow n τ f (below d) (shared ks)) (grow-rises f (below d) (shared ks)) (parts-in-sequence d (shared ks) 256 0 ks r)) m
 
     -- IN A LEVEL
-    pub level-rises : (ks : List Key) → Rising ks → All Even ks → LeavesRise (levelOf n τ ks)
+    pub level-rises : (ks : List Key) → Rising ks → All ValueOf ks → LeavesRise (levelOf n τ ks)
     unfolding levelOf trie LeavesRise
     level-rises [] r a = tt
     level-rises (x ∷ xs) r a = grow-rises (length (x ∷ xs)) root [] (x ∷ xs) Forest.none (r, a) tt

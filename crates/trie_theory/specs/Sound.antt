@@ -52,7 +52,7 @@ unfoldable pub Rising : List Key → Type 0
 Rising [] = Unit {0}
 Rising (x ∷ xs) = All (λ y. number (at 0 (x .strings)) ≤ number (at 0 (y .strings))) xs × Rising xs
 
--- the suffixes of each leaf do: a level's stand in row sequence, a small trie's have no byte
+-- the suffixes of each leaf are such keys: a level's stand in row sequence, a small trie's have no byte
 unfoldable pub LeavesRise : Forest → Type 0
 LeavesRise none = Unit {0}
 LeavesRise (leaf s ts more) = Rising ts × LeavesRise more

@@ -1,5 +1,6 @@
 -- `matcher::reach::reach_labels` meets its contract: the last byte known picks the case. Assumes nothing.
 use mathlib.Core.Path.{sym, ap, _∙_}
+use native.Mathlib.Omega.{arith}
 use borrow.Author.Needs.{needs}
 use Rattle.matcher.specs.Fit.{fitsPath}
 use Rattle.matcher.proofs.Firsts.{ended-long, lent-before}
@@ -29,7 +30,7 @@ reach-labels-spec =
     tie.close
     (tie.spec
     (λ c κs. search needs)
-    (λ c. ended-long (c .before .before .before .before .args .known .now) (sym (c .before .is-ended .ensures) ∙ c .if1 .taken))
+    (λ c. omega (arith, ended-long (c .before .before .before .before .args .known .now) (sym (c .before .is-ended .ensures) ∙ c .if1 .taken)))
     (λ c. search needs)
     (λ c. search needs)
     (λ c. search needs)
