@@ -4,5 +4,4 @@ pub mod Skips
 pub mod Trials
 pub mod Cuts
 mod Begins
-mod Leading
 mod Shared

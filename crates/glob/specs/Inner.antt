@@ -28,11 +28,6 @@ pub record Alike (p s : List ℕ) (r : ℕ) : Type 0 where
   pub in-label : r ≤ length s
   pub passes : (t : Trial) → Says (fitsLabel (take (length p - r) (drop r p))) (take (length s - r) (drop r s)) t → Says (fitsLabel p) s t
 
--- each label that fits l, a label of a pattern, begins with its first n bytes, and what stands behind fits the others
-pub record Plain (l : List ℕ) (n : ℕ) : Type 0 where
-  pub in-label : n ≤ length l
-  pub passes : (k : List ℕ) → fitsLabel l k ≡ true → (take n k ≡ take n l) × (fitsLabel (drop n l) (drop n k) ≡ true)
-
 -- Off holds of each place from `from` up to r, which is at most one past the last place, n
 pub record Skipped (Off : ℕ → Type 0) (n from r : ℕ) : Type 0 where
   pub low : from ≤ r

@@ -3,5 +3,4 @@ pub mod Bytes
 pub mod Labels
 pub mod Fit
 pub mod Begins
-pub mod Prefix
 pub mod Inner

@@ -4,4 +4,3 @@ pub mod bytes; // the bytes with a meaning of their own
 pub mod split; // where a label ends
 pub mod fit; // do labels fit a pattern?
 pub mod begin; // can labels that begin so fit a pattern?
-pub mod prefix; // which bytes does every path that fits begin with?

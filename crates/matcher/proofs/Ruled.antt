@@ -10,7 +10,7 @@ use lib.Dec.{eqb}
 use borrow.Author.Tests.{eq-eqb, ne-eqb, eqb-true}
 use Rattle.buffer.specs.Lists.{all}
 use Rattle.buffer.proofs.Tests.{not-both, and-left, or-left-false, or-right-false}
-use Rattle.glob.specs.Prefix.{LiteralPrefix, differs}
+use Rattle.glob_prefix.specs.Prefix.{LiteralPrefix, differs}
 use Rattle.matcher.specs.Bytes.{slash, endByte}
 use Rattle.matcher.specs.Labels.{labelsOf}
 use Rattle.matcher.specs.Form.{pathLabel, formedPath, patternForm, isFine}

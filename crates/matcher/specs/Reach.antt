@@ -12,7 +12,7 @@ use Rattle.matcher.specs.Labels.{labelsOf}
 use Rattle.matcher.specs.Fit.{fitsPath}
 use Rattle.matcher.specs.Form.{apart, formedPath, patternForm, isFine}
 pub use Rattle.glob.specs.Begins.{beginsLabel, beginsLabels}
-pub use Rattle.glob.specs.Prefix.{LiteralPrefix}
+pub use Rattle.glob_prefix.specs.Prefix.{LiteralPrefix}
 use Rattle.matcher.specs.Continued.{ended, Told}
 use Rattle.matcher.specs.declared.reach.Answer.{Answer}
 use Rattle.matcher.specs.declared.reach.Answer.the-variants.{Match, Mismatch, Incomplete}

@@ -6,7 +6,7 @@ use crate::form::is_fine;
 use crate::form::is_path;
 use glob::begin::begins_formed;
 use glob::fit::fits_formed;
-use glob::prefix::differs;
+use glob_prefix::prefix::differs;
 ghost use mathlib.Core.Path.{_≡_};
 ghost use mathlib.Core.Bool.{true};
 ghost use Prim.Native.Nat.{ℕ};
@@ -16,7 +16,7 @@ ghost use Rattle.matcher.specs.Continued.{ended, FirstBytes};
 ghost use Rattle.matcher.specs.Reach.{isFirst, reachLabels, reachOf, LiteralPrefix, Reached, RuledOut, OneLeads};
 
 // How many bytes of a pattern does every path that fits it begin with?
-pub use glob::prefix::literal_prefix;
+pub use glob_prefix::prefix::literal_prefix;
 
 // What the bytes known of a path say of a pattern.
 pub enum Answer {

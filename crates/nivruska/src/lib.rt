@@ -6,7 +6,7 @@ ghost use mathlib.Core.Path.{_≡_};
 ghost use Rattle.matcher.specs.Matches.{matches};
 ghost use Rattle.rows.specs.Entry.{entry};
 ghost use Rattle.book.specs.Promises.{SetsUp, Adds, Searches, ReadsLevel};
-ghost use Rattle.search.specs.Asked.{asked};
+ghost use Rattle.entries.specs.Query.{asked};
 ghost use Rattle.store.specs.Said.{said};
 
 // Sets a store up for M, L and τ.

@@ -32,8 +32,8 @@ use Rattle.gather.proofs.Putting.{put-none, put-then, put-one}
 use Rattle.gather.proofs.Splitting.{pick-one, pick-not, seen-key}
 use Rattle.search.specs.Steps.{takes, keyRow, Taken}
 use Rattle.search.specs.Searches.{OfPath, Searched, SuffixesFound}
-use Rattle.search.specs.Spans.{Spans}
-use Rattle.search.proofs.Ranges.{with-above}
+use Rattle.value_range.specs.Spans.{Spans}
+use Rattle.value_range.proofs.Ranges.{with-above}
 use Rattle.search.proofs.Steps.{key-path}
 
 -- ---- a loop
@@ -141,7 +141,7 @@ abbrev OneKey : Query → Key → List Key → ℕ → Type 0
 OneKey q x ks e = OfPath x × (ks ≡ pick (takes q) (x ∷ [])) × (e ≡ 0)
 
 -- its row is written, if there is room
-pub searched-one : {v p room n c : ℕ} {k k' : List ℕ} (q : Query) (x : Key) (s s' : List ℕ) → hasSlot x ≡ true → (OfPath x → takes q x ≡ true) → room * rowSize ≤ length s
+searched-one : {v p room n c : ℕ} {k k' : List ℕ} (q : Query) (x : Key) (s s' : List ℕ) → hasSlot x ≡ true → (OfPath x → takes q x ≡ true) → room * rowSize ≤ length s
     → s' ≡ cond (ltb n room) (splice s (0 + n * rowSize) (keyRow x)) s → known v p k' ≡ known v p k → Searched (OneKey q x) v p room n c s k s' k' (n + 1) c
 searched-one {room = room} {n = n} q x s s' slot t fits is kept =
     let one = put-one keyRow rowSize length-row 0 room n s s' x slot (omega arith) is kept in

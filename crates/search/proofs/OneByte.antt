@@ -23,12 +23,11 @@ use Rattle.trie_theory.specs.Dimensions.{branching}
 use Rattle.trie_theory.specs.Sound.{Starts}
 use Rattle.trie_theory.specs.Search.{enters}
 use Rattle.entries.specs.Slots.{slotSize}
-use Rattle.entries.specs.Query.{Query, valueReach, reaches}
+use Rattle.entries.specs.Query.{Query, valueReach, reaches, asked}
 use Rattle.gather.specs.KeySlots.{endedLimit, known}
-use Rattle.search.specs.Asked.{asked}
-use Rattle.search.specs.Spans.{Spans}
+use Rattle.value_range.specs.Spans.{Spans}
 use Rattle.search.specs.Steps.{rootKind, over, OneByte}
-use Rattle.search.proofs.Ranges.{with-below, with-above, too-long}
+use Rattle.value_range.proofs.Ranges.{with-below, with-above, too-long}
 use Rattle.search.proofs.Steps.{enters-value, enters-second}
 
 -- there is no third dimension

@@ -27,7 +27,7 @@ use Rattle.gather.proofs.Filling.{known-same, unfilled, slot-kept}
 use Rattle.trie_read.specs.Shape.{part}
 use Rattle.trie_read.proofs.Stretch.{length-part}
 use Rattle.buffer.proofs.Tests.{not-both, and-left, and-right, and-both, and-false}
-use Rattle.search.specs.Spans.{Spans}
+use Rattle.value_range.specs.Spans.{Spans}
 use Rattle.search.specs.declared.step.Common.{Common}
 use Rattle.search.specs.Steps.{both, rootKind, over, takes, InCommon, Descended, Taken}
 

@@ -1,4 +1,2 @@
-pub mod Asked
-pub mod Spans
 pub mod Steps
 pub mod Searches

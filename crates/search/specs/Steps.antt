@@ -19,7 +19,7 @@ use Rattle.entries.specs.Query.{Query, valueReach, reaches, wants}
 use Rattle.trie_read.specs.Sizes.{headSize}
 use Rattle.trie_read.specs.Shape.{part}
 use Rattle.gather.specs.KeySlots.{endedLimit, hasSlot, keySlot, known, suffixKey}
-use Rattle.search.specs.Spans.{Spans}
+use Rattle.value_range.specs.Spans.{Spans}
 use Rattle.search.specs.declared.step.Common.{Common}
 unfoldable pub use Rattle.gather.specs.KeySlots.{keyRow}
 

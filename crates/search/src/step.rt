@@ -1,11 +1,6 @@
 // The steps of a search. The key buffer of a walk (crate gather) has the known bytes. What is the same for all children of a node, or for all suffixes
 // of a leaf, is asked once; of a child or a suffix the value is asked first, and its bytes are copied only where they are needed. The form of paths is not
 // looked at: those of a store that our calls left are formed, and of other bytes nothing is said of an answer.
-use crate::value::Span;
-use crate::value::span_behind;
-use crate::value::value_at;
-use crate::value::value_reach;
-use crate::value::value_with;
 use buffer::moves::copy_from;
 use gather::key::ENDED_LIMIT;
 use gather::key::compose;
@@ -18,6 +13,11 @@ use rows::sizes::PATH_AT;
 use rows::sizes::VALUE_SIZE;
 use trie_read::sizes::HEAD_SIZE;
 use trie_read::sizes::SUFFIX_SIZE;
+use value_range::value::Span;
+use value_range::value::span_behind;
+use value_range::value::value_at;
+use value_range::value::value_reach;
+use value_range::value::value_with;
 ghost use mathlib.Core.Path.{_≡_};
 ghost use mathlib.Core.Bool.{true, cond, _&&_};
 ghost use Prim.Native.Nat.{ℕ, _+_, _-_, _≤_, _<_};
@@ -33,10 +33,9 @@ ghost use Rattle.trie_theory.specs.Search.{enters};
 ghost use Rattle.trie_read.specs.Sizes.{headSize, suffixSize};
 ghost use Rattle.trie_read.specs.Shape.{part};
 ghost use Rattle.entries.specs.Slots.{slotSize};
-ghost use Rattle.entries.specs.Query.{valueReach, reaches, isMatch};
+ghost use Rattle.entries.specs.Query.{valueReach, reaches, isMatch, asked};
 ghost use Rattle.gather.specs.KeySlots.{endedLimit, known};
-ghost use Rattle.search.specs.Asked.{asked};
-ghost use Rattle.search.specs.Spans.{Spans};
+ghost use Rattle.value_range.specs.Spans.{Spans};
 ghost use Rattle.search.specs.Steps.{both, over, InCommon, Descended, Taken};
 
 // Stands for the kind of a node where there is none above. No byte is that.
@@ -104,6 +103,18 @@ fn branches(low: u64, high: u64, known: &[u8]) -> Span
     Span { from: 1, to: 0 }
 }
 
+// What is asked once where no branching byte of the value is asked of.
+fn no_bytes(other: Answer, one: bool) -> Common
+    ensures { λ r. ⌜ (r .other ≡ other) × (r .one ≡ one) ⌝ }
+{
+    Common {
+        from: 1,
+        to: 0,
+        other,
+        one,
+    }
+}
+
 // Asks it at a node of a kind.
 pub(crate) fn ask_once(
     kind: usize,
@@ -120,12 +131,7 @@ pub(crate) fn ask_once(
     ensures { λ r. ⌜ InCommon (asked (now (pattern .entry)) low high) kind v p (now (key .entry)) r ⌝ }
 {
     if kind == ROOT {
-        return Common {
-            from: 1,
-            to: 0,
-            other: Answer::Incomplete,
-            one: false,
-        };
+        return no_bytes(Answer::Incomplete, false);
     }
     if kind == VALUE_KIND {
         let bytes = branches(low, high, &key[0..v]);
@@ -139,12 +145,7 @@ pub(crate) fn ask_once(
         };
     }
     let other = value_reach(low, high, &key[0..v]);
-    Common {
-        from: 1,
-        to: 0,
-        other,
-        one: one_leads(literal, p),
-    }
+    no_bytes(other, one_leads(literal, p))
 }
 
 // The answer for the value with the first byte of s added, if there is one: from..to are the bytes that lead into the range.

@@ -4,8 +4,6 @@ use crate::step::ROOT;
 use crate::step::ask_once;
 use crate::step::descend;
 use crate::step::take_key;
-use crate::value::is_above;
-use crate::value::span_behind;
 use entries::SLOT_SIZE;
 use gather::key::put;
 use rows::sizes::NODE_LIMIT;
@@ -17,6 +15,8 @@ use trie_read::sizes::HEAD_SIZE;
 use trie_read::sizes::SUFFIX_SIZE;
 use trie_read::suffixes::Tail;
 use trie_read::suffixes::read_suffix;
+use value_range::value::is_above;
+use value_range::value::span_behind;
 ghost use mathlib.Core.Path.{_≡_};
 ghost use mathlib.Core.Bool.{true};
 ghost use Prim.Native.Nat.{_+_, _*_, _<_, _≤_};
@@ -26,7 +26,7 @@ ghost use Rattle.matcher.specs.Form.{patternForm, isFine};
 ghost use Rattle.matcher.specs.Reach.{LiteralPrefix};
 ghost use Rattle.rows.specs.Sizes.{rowSize};
 ghost use Rattle.gather.specs.KeySlots.{known};
-ghost use Rattle.search.specs.Asked.{asked};
+ghost use Rattle.entries.specs.Query.{asked};
 ghost use Rattle.search.specs.Searches.{Searched, SuffixesFound, BodyFound, Ready, TrieSearched};
 
 // Rows found, and nodes entered.

@@ -11,7 +11,7 @@ use Rattle.buffer.specs.Splice.{splice}
 use Rattle.rows.specs.Sizes.{rowSize}
 use Rattle.rows.specs.Entry.{Entry, row, entry}
 use Rattle.rows.specs.Records.{records}
-use Rattle.entries.specs.Query.{Query}
+use Rattle.entries.specs.Query.{Query, asked}
 use Rattle.book.specs.Front.{frontOf}
 use Rattle.book.specs.Book.{Book, front}
 use Rattle.book.specs.Replies.{Reply, reply, Result, result, searchNumber}
@@ -19,7 +19,6 @@ use Rattle.book.specs.Calls.{typed}
 use Rattle.book.specs.Searching.{matching, nodes}
 use Rattle.book.specs.Promises.{SetsUp, Adds, Searches, Accepted, NoRoom}
 use Rattle.book.proofs.Kept.{matching-fits}
-use Rattle.search.specs.Asked.{asked}
 use Rattle.logline.specs.Meaning.{setup, addition, searching, misread}
 use Rattle.logline.specs.Spelling.{entryLine, rowLine, Wrote}
 use Rattle.linespell.proofs.Writing.{then}

@@ -4,7 +4,7 @@ use mathlib.Core.List.{List, [], _∷_, _++_, map}
 use lib.ListN.{length}
 use Rattle.buffer.specs.Lists.{flat}
 use Rattle.rows.specs.Entry.{Entry, entry}
-use Rattle.entries.specs.Query.{Query}
+use Rattle.entries.specs.Query.{Query, asked}
 use Rattle.book.specs.Book.{Book, blank, front}
 use Rattle.book.specs.Replies.{Reply, searchNumber}
 use Rattle.book.specs.Searching.{matching, nodes}
@@ -13,7 +13,6 @@ use Rattle.book.specs.Step.{step}
 use Rattle.logline.specs.Meaning.{Meaning, setup, addition, searching, misread, meaning}
 use Rattle.logline.specs.Spelling as Spelled
 use Rattle.logline.specs.Input.{linesOf}
-use Rattle.search.specs.Asked.{asked}
 use Rattle.session.specs.Sizes.{storeSize}
 
 -- the calls that a line asks for, on the whole store

@@ -11,7 +11,7 @@ ghost use Prim.Native.Nat.{_*_, _/_, _≤_};
 ghost use lib.ListN.{length};
 ghost use Rattle.matcher.specs.Form.{patternForm, isFine};
 ghost use Rattle.rows.specs.Sizes.{rowSize};
-ghost use Rattle.search.specs.Asked.{asked};
+ghost use Rattle.entries.specs.Query.{asked};
 ghost use Rattle.book.specs.Front.{need, mLimit, lLimit};
 ghost use Rattle.store.specs.Said.{said};
 ghost use Rattle.store.specs.Listing.{Overfull, Filled, Listed};

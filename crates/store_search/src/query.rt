@@ -7,7 +7,7 @@ use store::front::open;
 use store::reply::Reply;
 use store::reply::plain_reply;
 ghost use mathlib.Core.Path.{_≡_};
-ghost use Rattle.search.specs.Asked.{asked};
+ghost use Rattle.entries.specs.Query.{asked};
 ghost use Rattle.book.specs.Promises.{Searches};
 ghost use Rattle.store.specs.Said.{said};
 ghost use Rattle.store_search.specs.Listing.{queryNumber};

@@ -14,7 +14,7 @@ use Rattle.matcher.proofs.Firsts.{first-before}
 use Rattle.matcher.specs.declared.reach.Answer.{Answer}
 use Rattle.rows.specs.Sizes.{pathAt}
 use Rattle.trie_read.specs.Shape.{part}
-use Rattle.search.specs.Asked.{asked}
+use Rattle.entries.specs.Query.{asked}
 use Rattle.search.proofs.Steps.{first-less, both-goes, enters-root, enters-value, enters-path, known-front}
 use Rattle.search.proofs.step.admits.Statement.{statement}
 use Rattle.search.proofs.step.admits.Tie as tie

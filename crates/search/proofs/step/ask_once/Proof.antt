@@ -9,9 +9,8 @@ use borrow.Author.Tests.{eq-eqb, ne-eqb, eqb-true}
 use Rattle.buffer.proofs.Tests.{not-both}
 use Rattle.matcher.specs.Reach.{reachOf}
 use Rattle.rows.specs.Sizes.{valueSize, pathAt}
-use Rattle.entries.specs.Query.{valueReach}
-use Rattle.search.specs.Asked.{asked}
-use Rattle.search.specs.Spans.{Spans}
+use Rattle.entries.specs.Query.{valueReach, asked}
+use Rattle.value_range.specs.Spans.{Spans}
 use Rattle.search.proofs.OneByte.{value-byte, path-byte}
 use Rattle.search.proofs.step.ask_once.Statement.{statement}
 use Rattle.search.proofs.step.ask_once.Tie as tie
@@ -21,8 +20,8 @@ from-start n = omega arith
 
 returns : tie.Need-returns
 returns c =
-    let e = c .if1 .taken in
-    record { bytes = λ k. absurd (omega (arith, e, k)); other = λ z f. absurd (z e); single = λ y. not-both y refl }
+    let e = c .before .if1 .taken in
+    record { bytes = λ k. absurd (omega (arith, e, k)); other = λ z f. absurd (z e); single = λ y. not-both y (c .no-bytes .ensures .1) }
 
 returns-2 : tie.Need-returns-2
 returns-2 c =
@@ -44,20 +43,22 @@ returns-2 c =
 
 returns-3 : tie.Need-returns-3
 returns-3 c =
-    let a = c .before .before .before .before .before .before .before .args in
-    let pre = c .before .before .before .before .before .before .before .pre in
-    let one = c .before .before .before .if2 .left in
+    let a = c .before .before .before .before .before .before .before .before .args in
+    let pre = c .before .before .before .before .before .before .before .before .pre in
+    let one = c .before .before .before .before .if2 .left in
+    let r = c .no-bytes2 .ensures in
     record {
       bytes = λ k short. absurd (one k);
-      other = λ z f. rw (ne-eqb (a .kind) 1 one) (c .before .value-reach .ensures (a .pattern .now) ∙ ap (λ (n : ℕ). valueReach (asked (a .pattern .now) (a .low) (a .high)) (take n (a .key .now))) (from-start (a .v)));
+      other = λ z f. rw (ne-eqb (a .kind) 1 one) (r .0 ∙ c .before .before .value-reach .ensures (a .pattern .now) ∙ ap (λ (n : ℕ). valueReach (asked (a .pattern .now) (a .low) (a .high)) (take n (a .key .now))) (from-start (a .v)));
       single = λ y.
-          path-byte (a .pattern .now) (a .low) (a .high) (a .v) (a .p) _ (a .key .now) (pre .1 .0) (pre .1 .2) (pre .0 .1) (c .one-leads .ensures (a .pattern .now)) y refl (a .kind) (pre .1 .3) one (c .before .before .before .before .if1 .left);
+          path-byte (a .pattern .now) (a .low) (a .high) (a .v) (a .p) _ (a .key .now) (pre .1 .0) (pre .1 .2) (pre .0 .1) (c .before .one-leads .ensures (a .pattern .now)) (sym (r .1) ∙ y) refl (a .kind) (pre .1 .3) one (c .before .before .before .before .before .if1 .left);
     }
 
 pub ask-once-spec : {M : Type 1} → statement M
 ask-once-spec =
     tie.close
     (tie.spec
+    (λ c κs. search needs)
     returns
     (λ c. search needs)
     (λ c. search needs)
@@ -72,6 +73,7 @@ ask-once-spec =
     (λ c. search needs)
     (λ c. search needs)
     (λ c. search needs)
+    (λ c κs. search needs)
     (λ c κs. search needs)
     (λ c κs. search needs)
     returns-3)

@@ -7,9 +7,8 @@ use Prim.Native.Nat.{ℕ, _-_}
 use lib.ListN.{take}
 use lib.Seq.{length-take-le}
 use Rattle.rows.specs.Sizes.{valueSize}
-use Rattle.entries.specs.Query.{Query}
-use Rattle.search.specs.Asked.{asked}
-use Rattle.search.specs.Spans.{Spans}
+use Rattle.entries.specs.Query.{Query, asked}
+use Rattle.value_range.specs.Spans.{Spans}
 use Rattle.search.proofs.Steps.{known-front, wants-told, taken-none, taken-out, taken-slot}
 use Rattle.search.proofs.step.take_key.Statement.{statement}
 use Rattle.search.proofs.step.take_key.Tie as tie

@@ -2,9 +2,8 @@
 use borrow.Author.Needs.{needs}
 use native.Mathlib.Omega.{arith}
 use mathlib.Core.Path.{refl, ap, _∙_}
-use Rattle.entries.specs.Query.{valueReach}
-use Rattle.search.specs.Asked.{asked}
-use Rattle.search.proofs.Ranges.{none-more, one-long, too-long}
+use Rattle.entries.specs.Query.{valueReach, asked}
+use Rattle.value_range.proofs.Ranges.{none-more, one-long, too-long}
 use Rattle.search.proofs.step.value_more.Statement.{statement}
 use Rattle.search.proofs.step.value_more.Tie as tie
 

@@ -13,7 +13,7 @@ use Rattle.trie_read.specs.Heads.{Inside}
 use Rattle.trie_read.specs.declared.head.Head.the-variants.{Node}
 use Rattle.trie_read.proofs.Stretch.{length-part}
 use Rattle.gather.specs.KeySlots.{known}
-use Rattle.search.specs.Asked.{asked}
+use Rattle.entries.specs.Query.{asked}
 use Rattle.search.specs.Steps.{over}
 use Rattle.search.specs.Searches.{TriesFound, BodyFound}
 use Rattle.search.proofs.Steps.{descended-room, common-kept}

@@ -19,8 +19,8 @@ use Rattle.trie_read.specs.Shape.{part}
 use Rattle.trie_read.specs.Suffixes.{Within}
 use Rattle.trie_read.specs.declared.suffixes.Tail.the-variants.{At}
 use Rattle.gather.specs.KeySlots.{known}
-use Rattle.search.specs.Asked.{asked}
-use Rattle.search.specs.Spans.{Spans}
+use Rattle.entries.specs.Query.{asked}
+use Rattle.value_range.specs.Spans.{Spans}
 use Rattle.search.specs.Searches.{SuffixesFound}
 use Rattle.search.proofs.Steps.{span-kept, known-span, known-long}
 use Rattle.search.proofs.Finding.{Finding, finding-from, finding-end, suffixes-end, suffixes-bad, suffixes-above, suffixes-put, suffixes-pass}
@@ -30,8 +30,8 @@ use Rattle.search.proofs.walk.suffixes.Reads as reads
 use Rattle.search.proofs.walk.suffixes.Lts as lts
 use Rattle.gather.proofs.key.put.Reads as put-reads
 use Rattle.search.proofs.step.take_key.Reads as take-key-reads
-use Rattle.search.proofs.value.is_above.Reads as is-above-reads
-use Rattle.search.proofs.value.span_behind.Reads as span-behind-reads
+use Rattle.value_range.proofs.value.is_above.Reads as is-above-reads
+use Rattle.value_range.proofs.value.span_behind.Reads as span-behind-reads
 use Rattle.trie_read.proofs.suffixes.read_suffix.Reads as read-suffix-reads
 
 abbrev Inv-loop : tie.InvT-loop

@@ -3,7 +3,7 @@ use borrow.Author.Needs.{needs}
 use native.Mathlib.Omega.{arith}
 use Prim.Native.Nat.{ℕ, _+_, _-_, _≤_}
 use mathlib.Core.Path.{_≡_, subst}
-use Rattle.search.specs.Asked.{asked}
+use Rattle.entries.specs.Query.{asked}
 use Rattle.store_search.specs.Listing.{TriesSearched}
 use Rattle.store_search.proofs.Found.{part-few, searched-none, searched-next}
 use Rattle.store_search.proofs.walk.search_tries.Statement.{statement}
