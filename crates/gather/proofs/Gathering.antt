@@ -1,7 +1,7 @@
 -- What the walk of a whole trie puts: the slots of its entries. Assumes nothing.
 use mathlib.Core.Path.{_≡_, refl, sym, ap, ap₂, _∙_}
 use mathlib.Core.Bool.{true}
-use Prim.Native.Nat.{ℕ, zero, suc, _*_, _≤_, _<_}
+use Prim.Native.Nat.{ℕ, _+_, _*_, _≤_, _<_}
 use mathlib.Core.List.{List, [], _∷_, _++_, append-nil, map}
 use native.Mathlib.Omega.{arith}
 use lib.ListN.{length, take, length-map}
@@ -9,7 +9,6 @@ use lib.Seq.{take-all, length-take-le}
 use Rattle.buffer.specs.Lists.{all, pick, flat}
 use Rattle.buffer.specs.Splice.{splice}
 use Rattle.buffer.proofs.Lists.{tested-take}
-use Rattle.buffer.proofs.Splice.{splice-nil}
 use Rattle.buffer.proofs.Tests.{and-left, and-right, and-both}
 use Rattle.rows.specs.Sizes.{nodeLimit}
 use Rattle.rows.specs.Entry.{Entry, fitsRow}
@@ -25,7 +24,7 @@ use Rattle.gather.specs.KeySlots.{hasSlot, keySlot, known}
 use Rattle.gather.specs.Walks.{joined, Put, BodyKeys}
 use Rattle.gather.specs.Gathered.{Gathered}
 use Rattle.gather.proofs.Filling.{length-slot, short-slot, entry-has, entry-slot}
-use Rattle.gather.proofs.Putting.{length-put, all-even, joined-none}
+use Rattle.gather.proofs.Putting.{length-put, all-even, written-first}
 use Rattle.gather.proofs.Splitting.{keys-root}
 
 all-short : (xs : List Key) → all hasSlot xs ≡ true → all shortPath (map keySlot xs) ≡ true
@@ -52,20 +51,17 @@ joined-entries [] h = refl
 joined-entries (e ∷ es) h =
     ap₂ _++_ (entry-slot e (and-left (fitsRow e) (all fitsRow es) h)) (joined-entries es (and-right (fitsRow e) (all fitsRow es) h))
 
-none-joined : (m : ℕ) → joined keySlot (take m []) ≡ []
-none-joined zero = joined-none keySlot
-none-joined (suc m) = joined-none keySlot
-
 pub known-nothing : (k : List ℕ) → known 0 0 k ≡ [] ∷ [] ∷ []
 unfolding known
 known-nothing k = refl
 
-module _ (from to : ℕ) {out room n : ℕ} {s k s' k' : List ℕ} (w : Put keySlot (BodyKeys 1 nodeLimit (known 0 0 k) (part from to s)) 0 0 out room 0 s k s' k' n) where
+module _ (from to : ℕ) {out room n : ℕ} {s k s' k' : List ℕ} (w : Put keySlot (BodyKeys 1 nodeLimit (known 0 0 k) (part from to s)) 0 0 out room 0 s k s' k' n)
+    (fits : out + room * slotSize ≤ length s) where
   abbrev taken : List Key
   taken = take room (w .put)
 
   wrote : s' ≡ splice s out (joined keySlot taken)
-  wrote = w .writes s [] refl refl refl (sym (ap (splice s out) (none-joined room) ∙ splice-nil s out))
+  wrote = w .writes ∙ written-first keySlot slotSize length-slot out room (w .put) s (w .fit) fits
 
   fit : all hasSlot taken ≡ true
   fit = tested-take hasSlot room (w .put) (w .fit)

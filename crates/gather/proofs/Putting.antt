@@ -1,6 +1,6 @@
 -- Things put one after another: what the steps of a walk together put. One set of laws for loops over suffixes and over siblings, for slots,
 -- for rows and for records. Assumes nothing.
-use mathlib.Core.Path.{_≡_, refl, sym, ap, _∙_}
+use mathlib.Core.Path.{_≡_, refl, sym, ap, ap₂, _∙_}
 use mathlib.Core.Bool.{Bool, true, cond}
 use mathlib.Core.Logic.{⊎-elim}
 use Prim.Native.Nat.{ℕ, zero, suc, _+_, _-_, _*_, _≤_, _<_}
@@ -13,7 +13,7 @@ use borrow.Author.Tests.{lt-ltb, le-ltb, eq-eqb}
 use Rattle.buffer.specs.Lists.{all, flat}
 use Rattle.buffer.specs.Splice.{splice}
 use Rattle.buffer.proofs.Lists.{map-append, flat-append, tested-append}
-use Rattle.buffer.proofs.Splice.{length-splice, splice-then, take-before, region-drop}
+use Rattle.buffer.proofs.Splice.{length-splice, splice-nil, splice-then, take-before, region-drop}
 use Rattle.buffer.proofs.Tests.{and-left, and-right, and-both}
 use Rattle.rows.proofs.Compare.{less?}
 use Rattle.rows.proofs.Records.{length-joined, wide, record-inside}
@@ -21,7 +21,7 @@ use Rattle.trie_theory.specs.Forest.{Key}
 use Rattle.trie_read.specs.Shape.{part}
 use Rattle.trie_read.proofs.Stretch.{length-part}
 use Rattle.gather.specs.KeySlots.{hasSlot, known}
-use Rattle.gather.specs.Walks.{joined, PutBy}
+use Rattle.gather.specs.Walks.{joined, written, PutBy}
 
 -- ---- lists of things
 
@@ -36,6 +36,28 @@ joined-one g x = append-nil (g x)
 pub joined-none : {A : Type 0} (g : A → List ℕ) → joined g [] ≡ []
 unfolding joined flat
 joined-none g = refl
+
+joined-take : {A : Type 0} (g : A → List ℕ) (m : ℕ) → joined g (take m []) ≡ []
+joined-take g zero = joined-none g
+joined-take g (suc m) = joined-none g
+
+-- ---- what is written
+
+module _ {T : Type 0} (g : T → List ℕ) (out room : ℕ) where
+  pub written-none : (n : ℕ) (s : List ℕ) → s ≡ written g out room n [] s
+  unfolding written
+  written-none n s = refl
+
+  written-one : (n w : ℕ) (s s' : List ℕ) (x : T) → length (g x) ≡ w → s' ≡ cond (ltb n room) (splice s (out + n * w) (g x)) s → s' ≡ written g out room n (x ∷ []) s
+  unfolding written
+  written-one n w s s' x e is = rw e is
+
+  pub written-append : (n : ℕ) (xs ys : List T) (s : List ℕ) → written g out room n (xs ++ ys) s ≡ written g out room (n + length xs) ys (written g out room n xs s)
+  unfolding written
+  written-append n [] ys s = let z : n + 0 ≡ n = omega arith in rw z
+  written-append n (x ∷ xs) ys s =
+      let z : n + 1 + length xs ≡ n + suc (length xs) = omega arith in
+      rw z at (written-append (n + 1) xs ys (cond (ltb n room) (splice s (out + n * length (g x)) (g x)) s))
 
 -- ---- the steps
 
@@ -72,7 +94,7 @@ module _ {T : Type 0} {ok : T → Bool} {g : T → List ℕ} {v p out room : ℕ
         fit = refl;
         count = omega arith;
         long = refl;
-        writes = λ s₀ done l c f e. rw (append-nil done) e;
+        writes = written-none g out room n s;
         front = refl;
         kept = kept;
         are = λ ks a. sym (h ks a);
@@ -87,9 +109,7 @@ module _ {T : Type 0} {ok : T → Bool} {g : T → List ℕ} {v p out room : ℕ
         fit = tested-append ok (a .put) (b .put) (a .fit) (b .fit);
         count = omega (arith, a .count, b .count, length-append (a .put) (b .put));
         long = b .long ∙ a .long;
-        writes = λ s₀ done l c f e.
-            let q = b .writes s₀ (done ++ a .put) (omega (arith, a .long)) (omega (arith, a .count, length-append done (a .put))) (tested-append ok done (a .put) f (a .fit)) (a .writes s₀ done l c f e) in
-            rw (append-assoc done (a .put) (b .put)) at q;
+        writes = b .writes ∙ ap₂ (λ (i : ℕ) (t : List ℕ). written g out room i (b .put) t) (a .count) (a .writes) ∙ sym (written-append g out room n (a .put) (b .put) s);
         front = b .front ∙ a .front;
         kept = b .kept ∙ a .kept;
         are = λ ks z. absurd z;
@@ -132,19 +152,27 @@ module _ {T : Type 0} {ok : T → Bool} (g : T → List ℕ) (w : ℕ) (even : (
         let h : room ≤ length done = omega arith in
         is ∙ rw (le-ltb n room l, take-append-le room done) e
 
+    wrote-one : (s₀ : List ℕ) (done : List T) → length s₀ ≡ length s → length done ≡ n → all ok done ≡ true
+        → s ≡ splice s₀ out (joined g (take room done)) → s' ≡ splice s₀ out (joined g (take room (done ++ (x ∷ []))))
+    wrote-one s₀ done ls c f e =
+        ⊎-elim (λ (l : n < room). wrote-room l s₀ done ls c f e) (λ (l : room ≤ n). wrote-full l s₀ done c e) (less? n room)
+
+    long-one : length s' ≡ length s
+    long-one =
+        ⊎-elim
+        (λ (l : n < room). let inside = record-inside n room w l in
+        ap length is ∙ rw (lt-ltb n room l) (length-splice s (out + n * w) (g x) (omega (arith, even x has))))
+        (λ (l : room ≤ n). ap length is ∙ rw (le-ltb n room l))
+        (less? n room)
+
     pub put-one : {v p : ℕ} {k k' : List ℕ} → known v p k' ≡ known v p k → PutBy ok g (λ ks. ks ≡ x ∷ []) v p out room n s k s' k' (n + 1)
     put-one kept =
         record {
           put = x ∷ [];
           fit = and-both has refl;
           count = refl;
-          long = ⊎-elim
-              (λ (l : n < room). let inside = record-inside n room w l in
-              ap length is ∙ rw (lt-ltb n room l) (length-splice s (out + n * w) (g x) (omega (arith, even x has))))
-              (λ (l : room ≤ n). ap length is ∙ rw (le-ltb n room l))
-              (less? n room);
-          writes = λ s₀ done ls c f e.
-              ⊎-elim (λ (l : n < room). wrote-room l s₀ done ls c f e) (λ (l : room ≤ n). wrote-full l s₀ done c e) (less? n room);
+          long = long-one;
+          writes = written-one g out room n w s s' x (even x has) is;
           front = ⊎-elim
               (λ (l : n < room). let inside = record-inside n room w l in
               ap (take out) is ∙ rw (lt-ltb n room l) (take-before s (out + n * w) (g x) (omega (arith, even x has)) out (omega arith)))
@@ -153,6 +181,25 @@ module _ {T : Type 0} {ok : T → Bool} (g : T → List ℕ) (w : ℕ) (even : (
           kept = kept;
           are = λ ks e. sym e;
         }
+
+  -- what is written behind other such things, and all these, are one piece
+  pub written-behind : (out room : ℕ) (xs done : List T) (s s₀ : List ℕ) → all ok xs ≡ true → all ok done ≡ true → out + room * w ≤ length s → length s₀ ≡ length s
+      → s ≡ splice s₀ out (joined g (take room done)) → written g out room (length done) xs s ≡ splice s₀ out (joined g (take room (done ++ xs)))
+  unfolding written
+  written-behind out room [] done s s₀ h f fits l e = rw (append-nil done) e
+  written-behind out room (x ∷ xs) done s s₀ h f fits l e =
+      let n = length done in
+      let has = and-left (ok x) (all ok xs) h in
+      let s' = cond (ltb n room) (splice s (out + n * length (g x)) (g x)) s in
+      let is : s' ≡ cond (ltb n room) (splice s (out + n * w) (g x)) s = ap (λ (i : ℕ). cond (ltb n room) (splice s (out + n * i) (g x)) s) (even x has) in
+      let long = long-one out room n s s' x has fits is in
+      let one = wrote-one out room n s s' x has fits is s₀ done l refl f e in
+      let q = written-behind out room xs (done ++ (x ∷ [])) s' s₀ (and-right (ok x) (all ok xs) h) (tested-append ok done (x ∷ []) f (and-both has refl)) (omega (arith, long)) (l ∙ sym long) one in
+      let m : length (done ++ (x ∷ [])) ≡ n + 1 = length-append done (x ∷ []) in
+      rw (m, append-assoc done (x ∷ []) xs) at q
+
+  pub written-first : (out room : ℕ) (xs : List T) (s : List ℕ) → all ok xs ≡ true → out + room * w ≤ length s → written g out room 0 xs s ≡ splice s out (joined g (take room xs))
+  written-first out room xs s h fits = written-behind out room xs [] s s h refl fits refl (sym (ap (splice s out) (joined-take g room) ∙ splice-nil s out))
 
 -- ---- a loop
 

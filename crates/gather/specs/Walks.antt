@@ -1,10 +1,10 @@
 -- What a walk over tries in bytes writes: for each key that has a slot some bytes, one after another. Assumes nothing: these are definitions.
 use Prim.Native.Nat.{ℕ, _+_, _-_, _*_, _≤_}
 use mathlib.Core.Path.{_≡_}
-use mathlib.Core.Bool.{Bool, true, _&&_}
-use mathlib.Core.List.{List, [], _∷_, _++_, map}
+use mathlib.Core.Bool.{Bool, true, cond, _&&_}
+use mathlib.Core.List.{List, [], _∷_, map}
 use lib.ListN.{length, take}
-use lib.Dec.{leb}
+use lib.Dec.{leb, ltb}
 use Rattle.buffer.specs.Lists.{all, All, pick, flat}
 use Rattle.buffer.specs.Splice.{splice}
 use Rattle.rows.specs.Sizes.{valueSize}
@@ -21,16 +21,19 @@ use Rattle.gather.specs.KeySlots.{endedLimit, hasSlot, known}
 unfoldable pub joined : {A : Type 0} → (A → List ℕ) → List A → List ℕ
 joined g xs = flat (map g xs)
 
--- Things that pass a test are put: the counter goes from n to r, and s, which had the first `room` of n things from `out` on, has the first `room` of
--- these and the new ones; before `out` it is the same, and so are the known bytes of the key buffer k. Where `Has` tells the things, they are these.
+-- The bytes s, with things written from `out` on, behind n others: each at its place, if it is one of the first `room`
+unfoldable pub written : {A : Type 0} → (A → List ℕ) → (out room n : ℕ) → List A → List ℕ → List ℕ
+written g out room n [] s = s
+written g out room n (x ∷ xs) s = written g out room (n + 1) xs (cond (ltb n room) (splice s (out + n * length (g x)) (g x)) s)
+
+-- Things that pass a test are put: the counter goes from n to r, and they are written behind n others; nothing else changes, and the known bytes of the
+-- key buffer k are the same. Where `Has` tells the things, they are these.
 pub record PutBy {A : Type 0} (ok : A → Bool) (g : A → List ℕ) (Has : List A → Type 0) (v p out room n : ℕ) (s k s' k' : List ℕ) (r : ℕ) : Type 0 where
   pub put : List A
   pub fit : all ok put ≡ true
   pub count : r ≡ n + length put
   pub long : length s' ≡ length s
-  pub writes : (s₀ : List ℕ) (done : List A) → length s₀ ≡ length s → length done ≡ n → all ok done ≡ true
-      → s ≡ splice s₀ out (joined g (take room done))
-      → s' ≡ splice s₀ out (joined g (take room (done ++ put)))
+  pub writes : s' ≡ written g out room n put s
   pub front : take out s' ≡ take out s
   pub kept : known v p k' ≡ known v p k
   pub are : (ks : List A) → Has ks → put ≡ ks

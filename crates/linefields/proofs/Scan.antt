@@ -12,7 +12,6 @@ use borrow.Author.Tests.{lt-ltb, le-ltb, le-leb, lt-leb, eq-eqb, ne-eqb, eqb-tru
 use Rattle.buffer.specs.Lists.{all}
 use Rattle.buffer.proofs.Tests.{and-left}
 use Rattle.linefields.specs.Fields.{width, only, digit, numberFrom, plain, numberOf, hexDigit, hexValue, isReference}
-use Rattle.linefields.specs.declared.fields.Number.{Number}
 use Rattle.linefields.specs.declared.fields.Number.the-variants.{Value, Not}
 
 -- ---- the end of a field

@@ -1,20 +1,21 @@
 -- What the walk of a whole trie writes: the records of its keys. Assumes nothing.
-use Prim.Native.Nat.{ℕ, zero, suc, _+_, _≤_}
+use Prim.Native.Nat.{ℕ, _+_, _*_, _≤_}
 use mathlib.Core.Path.{_≡_, refl, sym, ap, _∙_}
 use mathlib.Core.List.{List, [], _∷_, map}
 use native.Mathlib.Omega.{arith}
 use lib.ListN.{length, take}
+use borrow.Author.Tests.{eqb-true}
 use Rattle.buffer.specs.Lists.{pick, flat}
 use Rattle.buffer.specs.Splice.{splice}
 use Rattle.buffer.proofs.Lists.{all-every, map-agree, map-same, pick-all}
-use Rattle.buffer.proofs.Splice.{splice-nil}
+use Rattle.rows.specs.Sizes.{recordSize}
 use Rattle.trie_theory.specs.Forest.{Strings, Key, Forest, keys}
 use Rattle.trie_theory.specs.Dimensions.{root}
 use Rattle.trie_theory.specs.Walk.{Step, walk}
 use Rattle.book.specs.Records.{walkBytes}
 use Rattle.gather.specs.KeySlots.{hasSlot, keyRow, known}
 use Rattle.gather.specs.Walks.{joined}
-use Rattle.gather.proofs.Putting.{joined-none}
+use Rattle.gather.proofs.Putting.{written-first}
 use Rattle.gather.proofs.Gathering.{known-nothing}
 use Rattle.gather.proofs.Splitting.{keys-root}
 use Rattle.read_back.specs.Readings.{recordBytes, trieRecord, TrieBytes, TrieRead}
@@ -24,10 +25,6 @@ use Rattle.read_back.proofs.Ways.{wayRecord, records-walk, walk-root}
 joined-flat : (rs : List (List ℕ)) → joined (λ x. x) rs ≡ flat rs
 unfolding joined
 joined-flat rs = ap flat (map-same rs)
-
-none-joined : (m : ℕ) → joined (λ (x : List ℕ). x) (take m []) ≡ []
-none-joined zero = joined-none (λ x. x)
-none-joined (suc m) = joined-none (λ x. x)
 
 -- below no node the record has the nodes of the key's walk
 whole-way : (f : Forest) (x : Key) → wayRecord 0 [] (walk [] f x) x ≡ trieRecord f x
@@ -41,8 +38,8 @@ whole f b =
     ∙ map-agree (all-every (keys [] f) (λ x. ap (λ (l : List Step). wayRecord 0 [] l x) (walk-root f x (b .regular)) ∙ whole-way f x))
 
 pub trie-read : {t : List ℕ} {room : ℕ} {s k s' k' : List ℕ} {r : ℕ} → Written (BodyRecords 1 0 [] (known 0 0 k) t) 0 0 room 0 s k s' k' r
-    → r ≤ 0 + length t → TrieRead t room s s' r
-trie-read {t} {room} {s} {k} {s'} {k'} {r} i few =
+    → r ≤ 0 + length t → room * recordSize ≤ length s → TrieRead t room s s' r
+trie-read {t} {room} {s} {k} {s'} {k'} {r} i few fits =
     record {
       put = i .put;
       fit = i .fit;
@@ -50,7 +47,8 @@ trie-read {t} {room} {s} {k} {s'} {k'} {r} i few =
       few = omega arith;
       long = i .long;
       writes =
-          i .writes s [] refl refl refl (sym (ap (splice s 0) (none-joined room) ∙ splice-nil s 0))
+          i .writes
+          ∙ written-first (λ x. x) recordSize (λ x h. eqb-true (length x) recordSize h) 0 room (i .put) s (i .fit) (omega arith)
           ∙ ap (splice s 0) (joined-flat (take room (i .put)));
       are = λ f b.
           i .are (map (trieRecord f) (keys [] f))

@@ -2,11 +2,10 @@
 use Prim.Native.Nat.{ℕ, _+_, _*_, _<_, _≤_}
 use mathlib.Core.Path.{_≡_}
 use mathlib.Core.Bool.{true}
-use mathlib.Core.List.{List, [], _++_, map}
-use lib.ListN.{length, take}
+use mathlib.Core.List.{List, [], map}
+use lib.ListN.{length}
 use Rattle.buffer.specs.Sizes.{wordLimit}
 use Rattle.buffer.specs.Lists.{all, All, pick}
-use Rattle.buffer.specs.Splice.{splice}
 use Rattle.matcher.specs.Form.{patternForm, isFine}
 use Rattle.matcher.specs.Continued.{FirstBytes}
 use Rattle.matcher.specs.Reach.{LiteralPrefix}
@@ -23,7 +22,7 @@ use Rattle.entries.specs.Query.{Query, reaches, wants}
 use Rattle.trie_read.specs.Shape.{Fixed}
 use Rattle.trie_read.specs.Suffixes.{suffixesBytes}
 use Rattle.gather.specs.KeySlots.{endedLimit, hasSlot}
-use Rattle.gather.specs.Walks.{joined, Put}
+use Rattle.gather.specs.Walks.{written, Put}
 use Rattle.search.specs.Steps.{over, takes, keyRow}
 
 -- the path bytes of a key are the first of a formed path and its end byte; of an entry's key they are all of them
@@ -50,8 +49,9 @@ pub record TrieFound (q : Query) (t : List ℕ) (ks : List Key) (e : ℕ) : Type
   pub is : ks ≡ found (reaches q) (wants q) root [] tries
   pub entered : e ≡ nodesEntered (reaches q) root [] tries
 
--- The contract of `search_trie`, on any bytes t: rows of some keys are found behind n others, r in all, of which s' has the first `room`, where s had the
--- first of the n; and nodes are counted from c on. Where the bytes are those of a trie, these are what a search of it finds
+-- The contract of `search_trie`, on any bytes t: rows of some keys are found behind n others, r in all, and those that are among the first `room` are
+-- written at their places, whatever stands before them, and nothing else; and nodes are counted from c on. Where the bytes are those of a trie, these
+-- are what a search of it finds
 pub record TrieSearched (q : Query) (t : List ℕ) (room n c : ℕ) (s s' : List ℕ) (r d : ℕ) : Type 0 where
   pub put : List Key
   pub nodes : ℕ
@@ -61,9 +61,7 @@ pub record TrieSearched (q : Query) (t : List ℕ) (room n c : ℕ) (s s' : List
   pub fewRows : r ≤ n + length t
   pub fewNodes : d ≤ c + length t
   pub long : length s' ≡ length s
-  pub writes : (s₀ : List ℕ) (done : List Key) → length s₀ ≡ length s → length done ≡ n → all hasSlot done ≡ true
-      → s ≡ splice s₀ 0 (joined keyRow (take room done))
-      → s' ≡ splice s₀ 0 (joined keyRow (take room (done ++ put)))
+  pub writes : s' ≡ written keyRow 0 room n put s
   pub are : (ks : List Key) (e : ℕ) → TrieFound q t ks e → (put ≡ ks) × (nodes ≡ e)
 
 -- ---- what the parts of the walk promise each other

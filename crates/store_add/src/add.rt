@@ -11,7 +11,6 @@ use store::front::open;
 use store::reply::Reply;
 use store::reply::plain_reply;
 ghost use Rattle.rows.specs.Entry.{entry};
-ghost use Rattle.book.specs.Replies.{reply};
 ghost use Rattle.book.specs.Promises.{Adds};
 ghost use Rattle.store.specs.Said.{said};
 ghost use Rattle.store_add.specs.Ready.{Ready};

@@ -1,6 +1,6 @@
 -- What a search finds in the tries of a store, one trie after another. Assumes nothing.
 use mathlib.Core.Path.{_≡_, refl, sym, ap, _∙_, subst}
-use Prim.Native.Nat.{ℕ, zero, suc, _+_, _^_, _≤_}
+use Prim.Native.Nat.{ℕ, zero, suc, _+_, _*_, _^_, _≤_}
 use mathlib.Core.List.{List, [], _∷_, _++_, map}
 use native.Mathlib.Omega.{arith}
 use native.Mathlib.Numerals.{add-one}
@@ -11,6 +11,7 @@ use Rattle.buffer.specs.Splice.{splice}
 use Rattle.buffer.proofs.Lists.{all-imp, all-append, all-pick, all-test, flat-map-next, map-flat-map, tested-append}
 use Rattle.buffer.proofs.Splice.{splice-nil}
 use Rattle.buffer.proofs.Sums.{sum-append}
+use Rattle.rows.specs.Sizes.{rowSize}
 use Rattle.trie_theory.specs.Forest.{Key, Forest}
 use Rattle.trie_theory.specs.Dimensions.{root}
 use Rattle.trie_theory.specs.Entries as Key
@@ -21,10 +22,11 @@ use Rattle.entries.proofs.Found.{found-keys}
 use Rattle.trie_read.specs.Shape.{part}
 use Rattle.trie_read.proofs.Stretch.{length-part}
 use Rattle.gather.specs.KeySlots.{hasSlot}
-use Rattle.gather.specs.Walks.{joined}
-use Rattle.gather.proofs.Putting.{joined-none}
+use Rattle.gather.specs.Walks.{joined, written}
+use Rattle.gather.proofs.Putting.{joined-none, written-behind}
 use Rattle.search.specs.Steps.{keyRow}
 use Rattle.search.specs.Searches.{TrieFound, TrieSearched}
+use Rattle.search.proofs.Finding.{length-row}
 use Rattle.book.specs.Front.{Front, need, needLimit}
 use Rattle.book.specs.Tries.{Tries, every}
 use Rattle.book.specs.Searching.{nodesOf}
@@ -124,9 +126,9 @@ searched-none q store m l room s =
     }
 
 pub searched-next : {q : Query} {store : List ℕ} {m l k room from to : ℕ} {s s' s'' : List ℕ} {r d r' d' : ℕ} → TriesSearched q store m l k room s s' r d
-    → PartOf store m l k from to → TrieSearched q (part from to store) room r d s' s'' r' d' → k ≤ l → length (part from to store) ≤ needLimit
+    → PartOf store m l k from to → TrieSearched q (part from to store) room r d s' s'' r' d' → k ≤ l → length (part from to store) ≤ needLimit → room * rowSize ≤ length s
     → TriesSearched q store m l (k + 1) room s s'' r' d'
-searched-next {q} {store} {m} {l} {k} {room} {from} {to} {s} {s'} {s''} {r} {d} {r'} {d'} a p b h few =
+searched-next {q} {store} {m} {l} {k} {room} {from} {to} {s} {s'} {s''} {r} {d} {r'} {d'} a p b h few fits =
     record {
       put = a .put ++ b .put;
       fit = tested-append hasSlot (a .put) (b .put) (a .fit) (b .fit);
@@ -134,7 +136,10 @@ searched-next {q} {store} {m} {l} {k} {room} {from} {to} {s} {s'} {s''} {r} {d} 
       fewRows = omega (arith, a .fewRows, b .fewRows);
       fewNodes = omega (arith, a .fewNodes, b .fewNodes);
       long = b .long ∙ a .long;
-      writes = b .writes s (a .put) (sym (a .long)) (sym (a .rows-are)) (a .fit) (a .writes);
+      writes =
+          b .writes
+          ∙ ap (λ (n : ℕ). written keyRow 0 room n (b .put) s') (a .rows-are)
+          ∙ written-behind keyRow rowSize length-row 0 room (b .put) (a .put) s' s (b .fit) (a .fit) (omega (arith, a .long)) (sym (a .long)) (a .writes);
       are = λ f t em el g holds.
           let x = a .are f t em el g holds in
           let y = b .are _ _ (trie-found q _ (numbered t k) (part from to store) (good-numbered f t g k (omega arith)) (p .holds f t em el g holds)) in (

@@ -11,7 +11,6 @@ use Rattle.trie_theory.specs.Encode.{suffixBytes}
 use Rattle.trie_read.proofs.Stretch.{part-at, part-end}
 use Rattle.trie_read.specs.Shape.{part, Fixed}
 use Rattle.trie_read.specs.Suffixes.{suffixesBytes, tailOf}
-use Rattle.trie_read.specs.declared.suffixes.Tail.{Tail}
 use Rattle.trie_read.specs.declared.suffixes.Tail.the-variants.{End, Bad, At}
 
 -- the two lengths and the reference

@@ -11,6 +11,6 @@ gather-spec =
     (λ c. search needs)
     (λ c κs. search needs)
     (λ c. search needs)
-    (λ c. gathered-all _ _ (c .before .before .before .before .walk .ensures .1) (c .if1 .taken))
+    (λ c. gathered-all _ _ (c .before .before .before .before .walk .ensures .1) (search needs) (c .if1 .taken))
     (λ c. search needs)
-    (λ c. gathered-room _ _ (c .before .before .before .before .walk .ensures .1) (c .if1 .left)))
+    (λ c. gathered-room _ _ (c .before .before .before .before .walk .ensures .1) (search needs) (c .if1 .left)))

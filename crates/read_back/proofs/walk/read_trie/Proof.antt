@@ -12,4 +12,4 @@ read-trie-spec =
     (λ c. search needs)
     (λ c κs. search needs)
     (λ c. search needs)
-    (λ c. trie-read (c .before .before .before .before .walk .ensures .1) (c .before .before .before .before .walk .ensures .0 .0)))
+    (λ c. trie-read (c .before .before .before .before .walk .ensures .1) (c .before .before .before .before .walk .ensures .0 .0) (search needs)))

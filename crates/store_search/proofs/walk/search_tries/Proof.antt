@@ -28,7 +28,7 @@ loop-again c =
     let p = c .before .before .before .before .before .before .before .before .before .before .before .before .pre in
     let i = c .before .before .before .before .before .before .before .loop .inv .1 in
     let part = c .before .before .before .before .before .trie-part .ensures in
-    (omega arith, searched-next i part (c .before .before .search-trie .ensures) (omega arith) (part-few part (p .1 .0) (p .1 .1) (p .1 .2)))
+    (omega arith, searched-next i part (c .before .before .search-trie .ensures) (omega arith) (part-few part (p .1 .0) (p .1 .1) (p .1 .2)) (p .1 .3))
 
 returns : tie.Need-returns Inv-loop μ-loop
 returns c =
