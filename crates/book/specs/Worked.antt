@@ -86,6 +86,15 @@ pub example-full :
 unfolding of-a-book
 example-full = refl
 
+-- the limits of a setup, on no memory: the greatest and the least numbers are 6, memory too short; one beyond a limit is 5
+pub example-limits :
+    replies blank
+    (setup 0 4096 8 100 ∷ setup 0 4097 8 100 ∷ setup 0 4096 9 100 ∷ setup 0 4096 8 101 ∷ setup 0 1 1 1 ∷ setup 0 0 1 1 ∷ setup 0 1 0 1
+    ∷ setup 0 1 1 0 ∷ [])
+    ≡ reply 6 0 0 ∷ reply 5 0 0 ∷ reply 5 0 0 ∷ reply 5 0 0 ∷ reply 6 0 0 ∷ reply 5 0 0 ∷ reply 5 0 0 ∷ reply 5 0 0 ∷ []
+unfolding of-a-book
+example-limits = refl
+
 -- seven entries, told apart by their values, in the sequence of their additions
 abbrev seven : List Entry
 seven = map (λ (v : ℕ). entry "/north/pond" v 1) (1 ∷ 2 ∷ 3 ∷ 4 ∷ 5 ∷ 6 ∷ 7 ∷ [])
@@ -159,6 +168,22 @@ pub example-two-tries :
     ≡ reply 0 3 0 ∷ reply 0 3 4 ∷ reply 0 1 2 ∷ reply 100 3 0 ∷ reply 100 3 0 ∷ reply 0 4 0 ∷ []
 unfolding of-a-book
 example-two-tries = refl
+
+-- row sequence is by value, then path, then reference: four entries that were added in the reverse of it
+abbrev reversed : Book
+reversed =
+    record {
+      M = 8;
+      L = 1;
+      τ = 1;
+      entries = entry "/a" 9 1 ∷ entry "/b/c" 7 1 ∷ entry "/b" 7 2 ∷ entry "/b" 7 1 ∷ [];
+    }
+
+pub example-sequence :
+    step reversed (search 20480 (asked (text "/**") 0 9) (replicate 916 0)) .result .answer
+    ≡ flat (map row (entry "/b" 7 1 ∷ entry "/b" 7 2 ∷ entry "/b/c" 7 1 ∷ entry "/a" 9 1 ∷ []))
+unfolding of-a-book
+example-sequence = refl
 
 -- each entry counts as a key, also where only references differ: two are more than τ 1, differ in neither dimension, and are one leaf
 abbrev references : List Call
