@@ -12,7 +12,7 @@ ghost use lib.ListN.{length};
 ghost use Rattle.logline.specs.Sizes.{lineLimit};
 ghost use Rattle.session.specs.Sizes.{storeSize, answerSize, printLimit};
 ghost use Rattle.session.specs.Keeps.{state};
-ghost use Rattle.session.specs.Whole.{FedBytes};
+ghost use Rattle.session.specs.Whole.{FedBytes, FedSome, start};
 
 // More reads than any input needs: the loop has to end.
 const READS: u64 = 18446744073709551615;
@@ -56,6 +56,7 @@ fn feed_all(
     out: &mut [u8],
 ) -> usize
     requires { ⌜ (length (now line) ≡ lineLimit) × (length (now store) ≡ storeSize) × (length (now answer) ≡ answerSize) × (length (now out) ≡ printLimit) ⌝ }
+    ensures { λ r. ⌜ FedSome (state 0 (now (line .entry)) (now (store .entry))) (state r (now (line .exit)) (now (store .exit))) ⌝ }
 {
     let mut len: usize = 0;
     let mut reads: u64 = 0;
@@ -70,13 +71,21 @@ fn feed_all(
     len
 }
 
+// Carries out the whole input on a store that is all zero.
+fn run(line: &mut [u8], chunk: &mut [u8], store: &mut [u8], answer: &mut [u8], out: &mut [u8])
+    requires { ⌜ (length (now line) ≡ lineLimit) × (length (now store) ≡ storeSize) × (length (now answer) ≡ answerSize) × (length (now out) ≡ printLimit) ⌝ }
+    requires { ⌜ state 0 (now line) (now store) ≡ start (now line) ⌝ }
+{
+    let len = feed_all(line, chunk, store, answer, out);
+    let n = feed_end(len, line, store, answer, out);
+    print_front(out, n);
+}
+
 fn main() {
     let mut store = [0u8; STORE_SIZE];
     let mut answer = [0u8; ANSWER_SIZE];
     let mut out = [0u8; PRINT_LIMIT];
     let mut line = [0u8; LINE_LIMIT];
     let mut chunk = [0u8; 4096];
-    let len = feed_all(&mut line, &mut chunk, &mut store, &mut answer, &mut out);
-    let n = feed_end(len, &line, &mut store, &mut answer, &mut out);
-    print_front(&out, n);
+    run(&mut line, &mut chunk, &mut store, &mut answer, &mut out);
 }

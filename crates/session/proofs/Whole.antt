@@ -10,7 +10,7 @@ use Rattle.logline.proofs.Feeding.{fed, fed-lines, given-means, holds-start}
 use Rattle.book.specs.Book.{Book, blank}
 use Rattle.session.specs.Printed.{next, printed, printedAll, nextAll, output}
 use Rattle.session.specs.Keeps.{unused, State, Stands, FedByte}
-use Rattle.session.specs.Whole.{Feeds, none, byte, FedBytes, Prints, ends, chunk, Log-Prints}
+use Rattle.session.specs.Whole.{Feeds, none, byte, FedBytes, FedSome, Prints, ends, chunk, Log-Prints}
 
 printed-append : (b : Book) (ms ns : List Meaning) → printedAll b (ms ++ ns) ≡ printedAll b ms ++ printedAll (nextAll b ms) ns
 unfolding printedAll nextAll
@@ -60,3 +60,13 @@ fed-none = record { text = []; feeds = none }
 pub fed-more : {s between after : State} {bytes text : List ℕ} {x : ℕ} → FedBytes s bytes between → FedByte x between after text
     → FedBytes s (bytes ++ (x ∷ [])) after
 fed-more f d = snoc (f .feeds) d
+
+append : {s between after : State} {bytes text more : List ℕ} → Feeds s bytes text between → FedBytes between more after → FedBytes s (bytes ++ more) after
+append none f = f
+append (byte d r) f = let more = append r f in record { text = _; feeds = byte d (more .feeds) }
+
+pub some-none : {s : State} → FedSome s s
+some-none = record { bytes = []; fed = fed-none }
+
+pub some-more : {s between after : State} {bytes : List ℕ} → FedSome s between → FedBytes between bytes after → FedSome s after
+some-more f d = record { bytes = _; fed = append (f .fed .feeds) d }

@@ -21,6 +21,11 @@ pub record FedBytes (s : State) (bytes : List ℕ) (after : State) : Type 0 wher
   pub text : List ℕ
   pub feeds : Feeds s bytes text after
 
+-- .. and whichever bytes they were
+pub record FedSome (s after : State) : Type 0 where
+  pub bytes : List ℕ
+  pub fed : FedBytes s bytes after
+
 -- the chunks of an input, fed in turn, then `feed_end`, and what was printed
 pub data Prints : State → List (List ℕ) → List ℕ → Type 0 where
   ends : {s : State} {text : List ℕ} → FedEnd s text → Prints s [] text
