@@ -8,11 +8,11 @@ use session::sizes::PRINT_LIMIT;
 use session::sizes::STORE_SIZE;
 ghost use mathlib.Core.Path.{_≡_};
 ghost use Prim.Native.Nat.{_≤_};
-ghost use lib.ListN.{length};
+ghost use lib.ListN.{length, take};
 ghost use Rattle.logline.specs.Sizes.{lineLimit};
 ghost use Rattle.session.specs.Sizes.{storeSize, answerSize, printLimit};
 ghost use Rattle.session.specs.Keeps.{state};
-ghost use Rattle.session.specs.Whole.{FedBytes, FedSome, start};
+ghost use Rattle.session.specs.Whole.{FedBytes, FedSome, FedLog, start};
 
 // More reads than any input needs: the loop has to end.
 const READS: u64 = 18446744073709551615;
@@ -71,14 +71,20 @@ fn feed_all(
     len
 }
 
-// Carries out the whole input on a store that is all zero.
-fn run(line: &mut [u8], chunk: &mut [u8], store: &mut [u8], answer: &mut [u8], out: &mut [u8])
+// Carries out the whole input on a store that is all zero; returns how many bytes of `out` are still to be printed.
+fn run(
+    line: &mut [u8],
+    chunk: &mut [u8],
+    store: &mut [u8],
+    answer: &mut [u8],
+    out: &mut [u8],
+) -> usize
     requires { ⌜ (length (now line) ≡ lineLimit) × (length (now store) ≡ storeSize) × (length (now answer) ≡ answerSize) × (length (now out) ≡ printLimit) ⌝ }
     requires { ⌜ state 0 (now line) (now store) ≡ start (now line) ⌝ }
+    ensures { λ r. ⌜ (r ≤ printLimit) × FedLog (start (now (line .entry))) (take r (now (out .exit))) ⌝ }
 {
     let len = feed_all(line, chunk, store, answer, out);
-    let n = feed_end(len, line, store, answer, out);
-    print_front(out, n);
+    feed_end(len, line, store, answer, out)
 }
 
 fn main() {
@@ -87,5 +93,6 @@ fn main() {
     let mut out = [0u8; PRINT_LIMIT];
     let mut line = [0u8; LINE_LIMIT];
     let mut chunk = [0u8; 4096];
-    run(&mut line, &mut chunk, &mut store, &mut answer, &mut out);
+    let n = run(&mut line, &mut chunk, &mut store, &mut answer, &mut out);
+    print_front(&out, n);
 }

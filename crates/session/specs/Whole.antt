@@ -26,6 +26,12 @@ pub record FedSome (s after : State) : Type 0 where
   pub bytes : List ℕ
   pub fed : FedBytes s bytes after
 
+-- .. and then `feed_end`, for which `text` is printed
+pub record FedLog (s : State) (text : List ℕ) : Type 0 where
+  pub last : State
+  pub fed : FedSome s last
+  pub ends : FedEnd last text
+
 -- the chunks of an input, fed in turn, then `feed_end`, and what was printed
 pub data Prints : State → List (List ℕ) → List ℕ → Type 0 where
   ends : {s : State} {text : List ℕ} → FedEnd s text → Prints s [] text
