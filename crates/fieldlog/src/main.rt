@@ -71,7 +71,8 @@ fn feed_all(
     len
 }
 
-// Carries out the whole input on a store that is all zero; returns how many bytes of `out` are still to be printed.
+// Carries out the input on a store that is all zero; returns how many bytes of `out` are still to be printed. That no line is left out is read here, no
+// contract says it.
 fn run(
     line: &mut [u8],
     chunk: &mut [u8],

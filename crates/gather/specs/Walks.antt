@@ -21,7 +21,7 @@ use Rattle.gather.specs.KeySlots.{endedLimit, hasSlot, known}
 unfoldable pub joined : {A : Type 0} → (A → List ℕ) → List A → List ℕ
 joined g xs = flat (map g xs)
 
--- The bytes s, with things written from `out` on, behind n others: each at its place, if it is one of the first `room`
+-- The bytes s, with things of one width (slots, rows or records) written from `out` on, behind n others: each at its place, if it is one of the first `room`
 unfoldable pub written : {A : Type 0} → (A → List ℕ) → (out room n : ℕ) → List A → List ℕ → List ℕ
 written g out room n [] s = s
 written g out room n (x ∷ xs) s = written g out room (n + 1) xs (cond (ltb n room) (splice s (out + n * length (g x)) (g x)) s)

@@ -8,7 +8,7 @@ use lib.Dec.{eqb}
 use Rattle.glob.specs.Bytes.{slash}
 use Rattle.glob.specs.Fit.{fitsLabel, fitsPath}
 
--- the first n bytes of the pattern are such: a path that differs there does not fit
+-- the first n bytes of the pattern are such: a path that begins with `/` and differs there does not fit
 pub record LiteralPrefix (pattern : List ℕ) (n : ℕ) : Type 0 where
   pub in-pattern : n ≤ length pattern
   pub begins : (path : List ℕ) → getD path 0 0 ≡ slash → fitsPath pattern path ≡ true → take n path ≡ take n pattern

@@ -12,6 +12,6 @@ use Rattle.entries.specs.Query.{Query, overlaps}
 pub record Steps (low high first width from to : ℕ) : Type 0 where
   pub are : (i : ℕ) → leb from i && leb i to ≡ leb low high && (leb (first + i * width) high && leb low (first + i * width + (width - 1)))
 
--- from..to are the numbers of n bytes with which some value of the range goes on from the bytes k
+-- of the numbers of n bytes exactly those in from..to go on from the bytes k to some value of the range; from..to may reach beyond what n bytes hold
 pub record Spans (q : Query) (k : List ℕ) (n from to : ℕ) : Type 0 where
   pub are : (r : List ℕ) → length r ≡ n → leb from (number r) && leb (number r) to ≡ overlaps q (k ++ r)

@@ -1,4 +1,4 @@
--- `glob::prefix::differs` meets its contract. The invariant: what is passed is alike. Assumes nothing.
+-- `glob_prefix::prefix::differs` meets its contract. The invariant: what is passed is alike. Assumes nothing.
 use mathlib.Core.Path.{refl, sym, _∙_}
 use Prim.Native.Nat.{_-_}
 use native.Mathlib.Omega.{arith}

@@ -1,4 +1,4 @@
--- `glob::prefix::literal_prefix` meets its contract: label by label, `Led`. Assumes nothing.
+-- `glob_prefix::prefix::literal_prefix` meets its contract: label by label, `Led`. Assumes nothing.
 use mathlib.Core.Path.{sym, _∙_}
 use Prim.Native.Nat.{_-_}
 use native.Mathlib.Omega.{arith}

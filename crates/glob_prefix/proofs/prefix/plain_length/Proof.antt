@@ -1,4 +1,4 @@
--- `glob::prefix::plain_length` meets its contract. The invariant is the contract, of the bytes passed so far. Assumes nothing.
+-- `glob_prefix::prefix::plain_length` meets its contract. The invariant is the contract, of the bytes passed so far. Assumes nothing.
 use Prim.Native.Nat.{_-_}
 use lib.ListN.{length}
 use borrow.Author.Needs.{needs}
