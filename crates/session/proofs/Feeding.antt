@@ -12,7 +12,7 @@ use Rattle.logline.specs.Input.{Holds, Fed, told, onEnd}
 use Rattle.logline.specs.Spelling.{Wrote}
 use Rattle.linecut.specs.declared.lines.Event.{Event}
 use Rattle.session.specs.Printed.{printed, printedAll, nextAll}
-use Rattle.session.specs.Keeps.{Ran, RanAll, state, FedByte, FedEnd}
+use Rattle.session.specs.Keeps.{Ran, RanAll, no-line, one-line, state, FedByte, FedEnd}
 
 -- the first bytes of what was written at the beginning
 wrote-first : {out b filled : List ℕ} {n : ℕ} → Wrote out 0 b filled n → take n filled ≡ b
@@ -20,11 +20,11 @@ wrote-first {out} {b} {filled} {n} w = ap (take n) (w .is ∙ splice-is out 0 b)
 
 pub ran-none : {store out : List ℕ} → RanAll [] store store out out 0
 unfolding printedAll nextAll
-ran-none = record { short = omega arith; prints = λ b k. refl; keeps = λ b k. k }
+ran-none = record { short = omega arith; prints = λ b k. refl; keeps = λ b k. k; changes = no-line refl }
 
 pub ran-one : {m : Meaning} {store after out filled : List ℕ} {n : ℕ} → Ran m store after out filled n → RanAll (m ∷ []) store after out filled n
 unfolding printedAll nextAll
-ran-one {m} r = record { short = r .short; prints = λ b k. wrote-first (r .prints b k) ∙ sym (append-nil (printed b m)); keeps = r .keeps }
+ran-one {m} r = record { short = r .short; prints = λ b k. wrote-first (r .prints b k) ∙ sym (append-nil (printed b m)); keeps = r .keeps; changes = one-line (r .changes) }
 
 module _ (event : Event) {len : ℕ} {line store after out filled : List ℕ} {n : ℕ} where
   pub fed-byte : {x next : ℕ} {line₀ : List ℕ} → ((begun : List ℕ) → Holds len line₀ begun → Fed begun x event next line)
@@ -33,6 +33,7 @@ module _ (event : Event) {len : ℕ} {line store after out filled : List ℕ} {n
       record {
         prints = λ begun b h. rw (f begun (h .holds) .tells) at (r .prints b (h .keeps));
         stands = λ begun b h. record { holds = f begun (h .holds) .holds; keeps = rw (f begun (h .holds) .tells) at (r .keeps b (h .keeps)) };
+        changes = λ begun h. rw (f begun h .tells) at (r .changes);
       }
 
   pub fed-end : ((buf begun : List ℕ) → Holds len buf begun → told event buf ≡ onEnd begun)

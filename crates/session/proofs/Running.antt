@@ -24,7 +24,7 @@ use Rattle.logline.specs.Spelling.{entryLine, rowLine, Wrote}
 use Rattle.linespell.proofs.Writing.{then}
 use Rattle.session.specs.Sizes.{storeSize, answerSize}
 use Rattle.session.specs.Printed.{setupCall, addCall, searchCall, replyLine, searched, printed, next}
-use Rattle.session.specs.Keeps.{Keeps, Ran}
+use Rattle.session.specs.Keeps.{Keeps, Ran, by-setup, by-addition, by-search, by-misread}
 use Rattle.session.proofs.Keeping.{Kept, kept-setup, kept-add, kept-search, accepted-sound}
 use Rattle.session.proofs.Enough.{accepted, refused}
 use Rattle.session.proofs.Printing.{lines-of-rows}
@@ -34,7 +34,7 @@ short w = omega (arith, w .ends, w .room)
 
 pub ran-misread : {store out filled : List ℕ} {n : ℕ} → Wrote out 0 (replyLine (reply 12 0 0)) filled n → Ran misread store store out filled n
 unfolding printed next replyLine
-ran-misread w = record { short = short w; prints = λ b k. w; keeps = λ b k. k }
+ran-misread w = record { short = short w; prints = λ b k. w; keeps = λ b k. k; changes = by-misread refl }
 
 module _ {store after out filled : List ℕ} {r : Reply} {n : ℕ} (lent : length store ≡ storeSize) (size : length after ≡ length store) (w : Wrote out 0 (replyLine r) filled n) where
   pub ran-setup : (m l t : ℕ) → SetsUp m l t store after r → Ran (setup m l t) store after out filled n
@@ -45,6 +45,7 @@ module _ {store after out filled : List ℕ} {r : Reply} {n : ℕ} (lent : lengt
         short = short w;
         prints = λ b h. subst (λ (x : Result). Wrote out 0 (replyLine (x .reply)) filled n) (k b h .result) w;
         keeps = λ b h. k b h .keeps;
+        changes = by-setup p;
       }
 
   pub ran-add : (value : ℕ) (reference path : List ℕ) → typed (addCall (entry path value reference)) ≡ true → Adds (entry path value reference) store after r
@@ -57,6 +58,7 @@ module _ {store after out filled : List ℕ} {r : Reply} {n : ℕ} (lent : lengt
         short = short w;
         prints = λ b h. subst (λ (x : Result). Wrote out 0 (replyLine (x .reply)) filled n) (k b h .result) w;
         keeps = λ b h. k b h .keeps;
+        changes = by-addition p;
       }
 
 -- ---- a search: the rows that were accepted, and the reply
@@ -110,6 +112,7 @@ module _ {low high : ℕ} {pattern store answer filled : List ℕ} {r : Reply} (
         short = short w;
         prints = λ b h. by-number (λ text. Wrote out 0 text out′ n) b h (λ k e. w) (λ e f. absurd (z (ap (λ (x : Reply). x .number) e)));
         keeps = λ b h. h;
+        changes = by-search refl;
       }
 
   pub ran-accepted : {out between out′ : List ℕ} {at n : ℕ} → r .number ≡ 0 → Wrote out 0 (flat (map rowLine (records rowSize (r .first) filled))) between at
@@ -129,4 +132,5 @@ module _ {low high : ℕ} {pattern store answer filled : List ℕ} {r : Reply} (
             ap₂ (λ (m : ℕ) (s : List ℕ). flat (map rowLine (records rowSize m s))) (ap (λ (x : Reply). x .first) e) f ∙ lines-of-rows found fit answer in
             rw lines at (then a w)));
         keeps = λ b h. h;
+        changes = by-search refl;
       }
