@@ -1,4 +1,6 @@
 // The writers of `buffer`, exported for the harness in bench/buffer. Each tests what its callee requires and else does nothing.
+#![tactic(auto)]
+
 #[unsafe(no_mangle)]
 pub extern "C" fn bench_copy(s: &mut [u8], at: usize, src: &[u8]) {
     if src.len() <= s.len() {

@@ -1,4 +1,6 @@
 // An export for measuring crate `trie_build` from outside (bench/build). It tests what the callee requires and otherwise does nothing.
+#![tactic(auto)]
+
 use entries::SLOT_SIZE;
 
 // The slots stand behind as many bytes, and the scratch stretch behind them.

@@ -1,4 +1,6 @@
 // Exports for measuring crate `trie_add` from outside (bench/tries). They test what the callee requires and otherwise do nothing.
+#![tactic(auto)]
+
 use rows::sizes::{NODE_LIMIT, REFERENCE_SIZE};
 use trie_read::sizes::{HEAD_SIZE, LEAF_SIZE};
 

@@ -1,5 +1,7 @@
 // Runs commands of 16 bytes from standard input on 64 bytes, and prints the 64 bytes in hex after each.
 // A command: kind, three small numbers, 4 bytes not used, 8 bytes of data. The cases and what they print come from tools/oracle/buffer.py.
+#![tactic(auto)]
+
 ghost use Rattle.std.specs.Prelude.{◌≡◌, length};
 
 const NEWLINE: [u8; 1] = [10];

@@ -1,5 +1,7 @@
 // `fieldlog`: carries out the lines of standard input on a store of its own, and prints. All that matters stands in the crates `logline` and `session`;
 // here bytes are only read and written. A line is carried out as soon as its end has been read, however the input arrives.
+#![tactic(auto)]
+
 ghost use Rattle.std.specs.Prelude.{◌≡◌, ◌≤◌, length, take};
 ghost use Rattle.logline.specs.Sizes.{line_limit};
 ghost use Rattle.session.specs.Sizes.{store_size, answer_size, print_limit};

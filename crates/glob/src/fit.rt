@@ -11,7 +11,7 @@ use crate::bytes::{SLASH, STAR};
 use crate::split::{is_deep, last_label, next_slash};
 
 // `Never`: it fails now, and also once any of the first bytes (or labels) are taken away.
-#[derive(Drop)]
+#[derive(Clone, Copy)]
 pub(crate) enum Trial {
     Fits,
     Fails,

@@ -10,12 +10,12 @@ use crate::sizes::LINE_LIMIT;
 const OVER: usize = LINE_LIMIT + 1;
 
 // How many bytes the open line has, or OVER.
-#[derive(Drop)]
+#[derive(Clone, Copy)]
 pub struct Feed {
     pub len: usize,
 }
 
-#[derive(Drop)]
+#[derive(Clone, Copy)]
 pub enum Event {
     Nothing,
     // A line whose bytes are the first of the buffer.
@@ -24,7 +24,7 @@ pub enum Event {
     Long,
 }
 
-#[derive(Drop)]
+#[derive(Clone, Copy)]
 pub struct Pushed {
     pub feed: Feed,
     pub event: Event,

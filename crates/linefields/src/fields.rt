@@ -7,7 +7,7 @@ ghost use Rattle.linefields.specs.Fields.{Ends, only, number_from, number_of, he
 use crate::sizes::REFERENCE_DIGITS;
 use buffer::sizes::REFERENCE_SIZE;
 
-#[derive(Drop)]
+#[derive(Clone, Copy)]
 pub enum Number {
     Value(u64),
     Not,

@@ -1,3 +1,5 @@
 // The fields of a line of `fieldlog`: where one ends, numbers, references. Knows nothing of commands.
+#![tactic(auto)]
+
 pub mod fields;
 pub mod sizes;

@@ -6,7 +6,7 @@ ghost use Rattle.logline.specs.Numerals.{NumberRead};
 use linecut::sizes::LINE_LIMIT;
 use linefields::fields::Number;
 
-#[derive(Drop)]
+#[derive(Clone, Copy)]
 pub enum Command {
     Setup {
         m: u64,
@@ -27,7 +27,7 @@ pub enum Command {
 }
 
 // A decimal field: its number, and the position behind its comma.
-#[derive(Drop)]
+#[derive(Clone, Copy)]
 enum Field {
     Numeral { value: u64, next: usize },
     Lost,

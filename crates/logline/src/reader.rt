@@ -6,7 +6,7 @@ ghost use Rattle.logline.specs.Meaning.{meaning, Says};
 
 use crate::command::Command;
 
-#[derive(Drop)]
+#[derive(Clone, Copy)]
 pub struct Line<'a> {
     pub bytes: &'a [u8],
     pub at: usize,

@@ -1,5 +1,7 @@
 // Cuts standard input into lines, read in chunks of 61 bytes, and prints what each line was read as, spelled as replies and rows are.
 // The input and what must be printed for it come from tools/oracle/logline.py.
+#![tactic(auto)]
+
 ghost use Rattle.std.specs.Prelude.{◌≡◌, ◌+◌, ◌≤◌, length};
 ghost use Rattle.logline.specs.Sizes.{line_limit, reference_size, reference_digits};
 

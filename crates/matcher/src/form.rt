@@ -13,7 +13,7 @@ use crate::runs::are_apart;
 use glob::split::{byte_at, is_deep, label_count, next_slash};
 
 // How a path or a pattern is formed. `TooLong`: over 200 bytes, or a pattern with over 32 `/`.
-#[derive(Drop)]
+#[derive(Clone, Copy)]
 pub enum Form {
     Fine,
     TooLong,

@@ -14,7 +14,7 @@ use glob_prefix::prefix::differs;
 pub use glob_prefix::prefix::literal_prefix;
 
 // What the bytes known of a path say of a pattern.
-#[derive(Drop)]
+#[derive(Clone, Copy)]
 pub enum Answer {
     Match,
     Mismatch,

@@ -1,6 +1,8 @@
 // Reads cases of the matcher from standard input and prints its answers. A line is a letter and one or two byte strings in
 // hex, with `-` for no bytes; the answer is the letter and a number. tools/oracle/matcher.py makes the cases, and has the
 // answers of a second program. A line that begins with `#` is a comment.
+#![tactic(auto)]
+
 ghost use Rattle.std.specs.Prelude.{◌≤◌, ◌<◌, length};
 ghost use Rattle.io.specs.Counts.{IsPrefixLen};
 

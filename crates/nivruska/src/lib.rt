@@ -1,6 +1,8 @@
 // The index in lent memory: four calls, and the matcher alone, for Rattle, and for C and Rust with a slice as a pointer and a length. No call asks
 // anything of its caller; what each promises is in the book (crates/book/specs/Promises.antt), and what follows for any list of calls is demand 3
 // (crates/book/specs/Demand3.antt).
+#![tactic(auto)]
+
 ghost use Rattle.std.specs.Prelude.{◌≡◌};
 ghost use Rattle.matcher.specs.Matches.{matches};
 ghost use Rattle.rows.specs.Entry.{entry};

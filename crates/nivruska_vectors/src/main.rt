@@ -1,5 +1,7 @@
 // Adds the rows of standard input to a store for M 9, L 1 and τ 2, and prints each reply. Then reads level 0 back and prints each record: its row,
 // and its nodes as `=,kind,path position,value position`. Input and expected output come from tools/oracle/table5.py: Table 5 of the paper.
+#![tactic(auto)]
+
 ghost use Rattle.std.specs.Prelude.{◌≡◌, length};
 ghost use Rattle.rows.specs.Sizes.{row_size, record_size};
 

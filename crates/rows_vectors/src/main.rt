@@ -1,4 +1,6 @@
 // Runs the outside cases of crate `rows` and prints them; tools/oracle/rows.py prints the same by other means.
+#![tactic(auto)]
+
 ghost use Rattle.std.specs.Prelude.{◌+◌, ◌*◌, ◌≤◌, ◌<◌, length};
 ghost use Rattle.rows.specs.Sizes.{path_limit, row_size};
 

@@ -1,3 +1,5 @@
 // Searching tries: which nodes a search enters, how many, and the rows that it finds.
+#![tactic(auto)]
+
 pub mod step;
 pub mod walk;

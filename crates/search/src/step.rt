@@ -70,7 +70,7 @@ fn is_match(answer: Answer) -> bool
 
 // What is asked once for all children of a node: which branching bytes of the value lead into the range, from..to, where it branches there; the answer
 // of the dimension in which it does not branch (at a root it says nothing); and `one`: if true, at most one branching byte leads on.
-#[derive(Drop)]
+#[derive(Clone, Copy)]
 pub(crate) struct Common {
     pub(crate) from: u64,
     pub(crate) to: u64,

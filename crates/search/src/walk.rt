@@ -19,7 +19,7 @@ use trie_read::suffixes::{Tail, read_suffix};
 use value_range::value::{is_above, span_behind};
 
 // Rows found, and nodes entered.
-#[derive(Drop)]
+#[derive(Clone, Copy)]
 pub struct Found {
     pub rows: usize,
     pub nodes: usize,

@@ -9,7 +9,7 @@ ghost use Rattle.session.specs.Keeps.{RanAll, state, FedByte, FedEnd};
 use crate::run::{run_line, run_long};
 use logline::lines::{Event, Feed, finish, push};
 
-#[derive(Drop)]
+#[derive(Clone, Copy)]
 pub struct Progress {
     // How many bytes the line has that is begun, as `linecut` counts them.
     pub len: usize,

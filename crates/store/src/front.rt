@@ -68,7 +68,7 @@ pub fn needed(m: usize, l: usize) -> usize
 }
 
 // M, L, τ and the held number.
-#[derive(Drop)]
+#[derive(Clone, Copy)]
 pub struct Front {
     pub m: usize,
     pub l: usize,
@@ -77,7 +77,7 @@ pub struct Front {
 }
 
 // `Missing`: no store stands in the memory lent, number 4.
-#[derive(Drop)]
+#[derive(Clone, Copy)]
 pub enum Opened {
     Store(Front),
     Missing,

@@ -7,7 +7,7 @@ use crate::extent::trie_length;
 use crate::front::{ENTRY_ROOM, FRONT_ROOM, power};
 
 // The bytes from..to of a store.
-#[derive(Drop)]
+#[derive(Clone, Copy)]
 pub struct Part {
     pub from: usize,
     pub to: usize,

@@ -4,7 +4,7 @@ ghost use Rattle.book.specs.Replies.{reply};
 ghost use Rattle.store.specs.Said.{said};
 
 #[repr(C)]
-#[derive(Drop)]
+#[derive(Clone, Copy)]
 pub struct Reply {
     pub number: u32,
     pub first: u64,

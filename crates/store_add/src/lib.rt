@@ -1,4 +1,6 @@
 // The addition of an entry to a store.
+#![tactic(auto)]
+
 pub mod add;
 mod check;
 mod lookup;

@@ -1,4 +1,6 @@
 // What an addition does where it brings the small trie to M entries: the first empty level is built anew from all that lies below it.
+#![tactic(auto)]
+
 pub mod digits;
 pub mod gathering;
 pub mod merging;

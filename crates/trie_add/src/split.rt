@@ -38,7 +38,7 @@ fn put_fronts(
 }
 
 // How a node is cut: the new parent takes so many bytes of its value and path string and has this kind; does the new leaf stand before it?
-#[derive(Drop)]
+#[derive(Clone, Copy)]
 pub struct Cut {
     pub value: usize,
     pub path: usize,

@@ -1,6 +1,8 @@
 // For each set of rows from standard input: the kind of its node and its discriminative positions in path and value (a line of Table 3), then
 // the bytes of its level in hex. A set: tau, the kind of the node above, the number of its rows (at most 32), its rows in row sequence. The sets
 // and what they print come from tools/oracle/trie_build.py.
+#![tactic(auto)]
+
 ghost use Rattle.std.specs.Prelude.{◌≡◌, ◌*◌, ◌<◌, ◌≤◌, true, length};
 ghost use Rattle.rows.specs.Sizes.{row_size};
 ghost use Rattle.entries.specs.Slots.{slot_size};

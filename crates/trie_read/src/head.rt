@@ -9,7 +9,7 @@ use crate::sizes::HEAD_SIZE;
 
 // `End`: no bytes. `Bad`: no node begins here. `Node`: its value string is t[HEAD_SIZE..path], its path string t[path..body], its body
 // t[body..next], and its later siblings are t[next..].
-#[derive(Drop)]
+#[derive(Clone, Copy)]
 pub enum Head {
     End,
     Bad,

@@ -1,6 +1,8 @@
 // Reading tries in the store's own bytes. A node, as specs of trie_theory, Encode, has it for two dimensions:
 //
 //   kind (1 V, 2 path, 0 leaf) | v | p | body length, 4 bytes | v value bytes | p path bytes | body
+#![tactic(auto)]
+
 pub mod head;
 pub mod lookup;
 pub mod place;

@@ -11,7 +11,7 @@ use crate::sizes::HEAD_SIZE;
 use crate::strings::branch_byte;
 
 // Places in the bytes of the tries: `Node` as Head::Node has them, from the beginning of all; `Gap`: before what stands there.
-#[derive(Drop)]
+#[derive(Clone, Copy)]
 pub enum Place {
     Node {
         at: usize,

@@ -13,7 +13,7 @@ use rows::order::equal;
 
 // `End`: no bytes. `Bad`: no suffix begins here. `At`: the reference is b[2..SUFFIX_SIZE], the value bytes b[SUFFIX_SIZE..path], the path bytes
 // b[path..next], and the later suffixes b[next..].
-#[derive(Drop)]
+#[derive(Clone, Copy)]
 pub enum Tail {
     End,
     Bad,

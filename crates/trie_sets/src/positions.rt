@@ -91,7 +91,7 @@ fn turn_kind(above: usize, value: bool, path: bool) -> usize
 }
 
 // How a set is split: the kind of its node, and how many bytes its keys share in each dimension.
-#[derive(Drop)]
+#[derive(Clone, Copy)]
 pub struct Shape {
     pub kind: usize,
     pub value: usize,

@@ -7,6 +7,8 @@
 //   #..                         printed as it is
 //
 // A node's line has its kind, its value string in hex and its path string; the suffixes of a leaf, with their references, stand below it.
+#![tactic(auto)]
+
 ghost use Rattle.std.specs.Prelude.{◌≡◌, ◌+◌, ◌≤◌, ◌<◌, length};
 ghost use Rattle.buffer.specs.Sizes.{four_byte_limit};
 ghost use Rattle.rows.specs.Sizes.{reference_size};

@@ -42,7 +42,7 @@ fn lowest(known: &[u8]) -> u64
 }
 
 // The numbers from..to: none where `from` is above `to`.
-#[derive(Drop)]
+#[derive(Clone, Copy)]
 pub struct Span {
     pub from: u64,
     pub to: u64,

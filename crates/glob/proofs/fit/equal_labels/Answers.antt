@@ -1,0 +1,64 @@
+-- `glob::fit::equal_labels` meets its contract. The invariant: the labels up to n are shared, and those that begin there are alike up to i.
+use mathlib.Core.Path.{◌≡◌, sym, subst, ◌∙◌}
+use mathlib.Core.Logic.{⊎_elim}
+use Prim.Native.Nat.{ℕ, ◌+◌, ◌-◌, ◌<◌, ◌≤◌}
+use native.Mathlib.Omega.{arith}
+use lib.ListN.{length}
+use Rattle.buffer.proofs.Tests.{same?}
+use Rattle.glob.specs.Inner.{SharedLabels}
+use Rattle.glob.proofs.Cuts.{begun_at, begun_end}
+use Rattle.glob.proofs.Shared.{Run, run_first, run_on, run_next, shared_none, shared_on, shared_unlike, shared_longer, alike_shared, alike_off}
+use Rattle.glob.proofs.fit.equal_labels.Goals as goal
+
+pub loop-i-init : goal.loop-i-init
+loop-i-init c =
+    let p = c.args.pattern.now in
+    let s = c.args.path.now in
+    (omega (arith, c.requires.0), shared_none p s c.requires.1 c.requires.2, λ m. (omega arith, run_first p s (omega (arith, c.requires.0)) (omega arith) c.requires.1 c.requires.2))
+
+pub returns-then-path-i : goal.returns-then-path-i
+returns-then-path-i c = alike_shared _ _ _ c.loop-i.invariant.1
+
+pub returns-then-pattern-i-eq-STAR : goal.returns-then-pattern-i-eq-STAR
+returns-then-pattern-i-eq-STAR c = alike_shared _ _ _ c.loop-i.invariant.1
+
+pub returns-then-pattern-i : goal.returns-then-pattern-i
+returns-then-pattern-i c =
+    let p = c.args.pattern.now in
+    let s = c.args.path.now in
+    let m : c.loop-i.i < length s = omega (arith, c.if-path-i.false) in
+    alike_off p s (length p + 1) (omega arith)
+    (shared_unlike p s c.loop-i.n c.loop-i.i (c.loop-i.invariant.2 (λ z. omega (arith, m))).1 c.loop-i-test.true (omega (arith, m)) c.if-pattern-i-eq-STAR.false (λ z. omega (arith, z, c.if-pattern-i.true)) c.loop-i.invariant.1)
+
+pub loop-i-preserved : goal.loop-i-preserved
+loop-i-preserved c =
+    let p = c.args.pattern.now in
+    let s = c.args.path.now in
+    let i = c.loop-i.i in
+    let l = c.loop-i-test.true in
+    let m : i < length s = omega (arith, c.if-path-i.false) in
+    let e = c.if-pattern-i.false in
+    let run = (c.loop-i.invariant.2 (λ z. omega (arith, m))).1 in
+    let Again : ℕ → Type 0 = λ k. (i + 1 ≤ length p) × SharedLabels p s k × ((length s ≡ 0 → ⊥) → (i + 1 ≤ length s) × Run p s k (i + 1)) in
+    ⊎_elim
+    (λ w. let z = w.0.taken in subst Again (sym w.1)
+    (omega (arith, l), shared_on p s c.loop-i.n i run c.loop-i.invariant.0 (omega (arith, m)) (begun_at p i l z) (begun_at s i m (sym e ∙ z)) c.loop-i.invariant.1, λ g. (omega (arith, m), run_next p s i l m e z)))
+    (λ w. subst Again (sym w.1) (omega (arith, l), c.loop-i.invariant.1, λ g. (omega (arith, m), run_on p s i l m e c.loop-i.n c.if-pattern-i-eq-STAR.false w.0.left run)))
+    c.if-pattern-i-eq-SLASH.branch
+
+-- the pattern has ended
+pub returns : goal.returns
+returns c =
+    let p = c.args.pattern.now in
+    let s = c.args.path.now in
+    let n = c.loop-i.n in
+    let i = c.loop-i.i in
+    let a = c.loop-i.invariant.1 in
+    let end = c.loop-i-test.false in
+    ⊎_elim
+    (λ (z : length s ≡ 0). alike_shared p s (length s) (subst (SharedLabels p s) (omega (arith, a.in_path, z)) a))
+    (λ (z : length s ≡ 0 → ⊥). let run = c.loop-i.invariant.2 z in (
+      λ m. subst (SharedLabels p s) (omega (arith, run.0, m, end)) (shared_on p s n i run.1 c.loop-i.invariant.0 run.0 (begun_end p i (omega (arith, end))) (begun_end s i (omega (arith, m, end))) a),
+      λ m. shared_longer p s n i run.1 (omega (arith, end)) (omega (arith, m, c.loop-i.invariant.0)) a,
+    ))
+    (same? (length s) 0)

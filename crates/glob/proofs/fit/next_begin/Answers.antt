@@ -1,0 +1,59 @@
+-- `glob::fit::next_begin` meets its contract. The invariant: its first part, of the places passed over so far.
+use mathlib.Core.Path.{◌≡◌, sym, ◌∙◌}
+use mathlib.Core.List.{List}
+use Prim.Native.Nat.{ℕ, ◌+◌, ◌-◌, ◌≤◌}
+use native.Mathlib.Omega.{arith}
+use lib.ListN.{length, drop, get_or}
+use lib.Dec.{eqb}
+use borrow.Author.Tests.{eqb-true}
+use Rattle.buffer.proofs.Tests.{and_right}
+use Rattle.glob.specs.Bytes.{slash}
+use Rattle.glob.specs.Labels.{up_to_slash, labels_of}
+use Rattle.glob.specs.Inner.{Begun, Skipped, OffLabels}
+use Rattle.glob.proofs.Parts.{back}
+use Rattle.glob.proofs.Skips.{skip_none, skip_on, skip_to}
+use Rattle.glob.proofs.Cuts.{begun_next, begun_at, begun_end, off_up, off_unlike, off_last}
+use Rattle.glob.proofs.fit.next_begin.Goals as goal
+
+-- where the pattern's first label may begin with any byte: the next `/`
+up_to : (ps : List (List ℕ)) (s : List ℕ) (from r : ℕ) → (r ≡ from + length (up_to_slash (drop from s))) × (r ≤ from + (length s - from)) → from ≤ length s + 1 → Skipped (OffLabels ps s) (length s) from r × Begun (back s r)
+up_to ps s from r h l = (skip_to (OffLabels ps s) (length s) from from r (omega arith) (omega arith) (off_up ps s from r h.0 h.1) (skip_none (OffLabels ps s) (length s) from l), begun_next s from r h.0)
+
+pub returns-then-pattern-lt2 : goal.returns-then-pattern-lt2
+returns-then-pattern-lt2 c = up_to (labels_of c.args.pattern.now) c.args.path.now c.args.from c.next_slash.result c.next_slash.ensures c.requires.1
+
+pub returns-then-c-eq-STAR : goal.returns-then-c-eq-STAR
+returns-then-c-eq-STAR c = up_to (labels_of c.args.pattern.now) c.args.path.now c.args.from c.next_slash-then-c-eq-STAR.result c.next_slash-then-c-eq-STAR.ensures c.requires.1
+
+pub returns-then-c-eq-SLASH : goal.returns-then-c-eq-SLASH
+returns-then-c-eq-SLASH c = up_to (labels_of c.args.pattern.now) c.args.path.now c.args.from c.next_slash-then-c-eq-SLASH.result c.next_slash-then-c-eq-SLASH.ensures c.requires.1
+
+pub loop-i-init : goal.loop-i-init
+loop-i-init c = skip_none _ _ _ c.requires.1
+
+pub returns-then-begins_with : goal.returns-then-begins_with
+returns-then-begins_with c =
+    let p = c.args.pattern.now in
+    let s = c.args.path.now in
+    let i = c.loop-i.i in
+    (c.loop-i.invariant, begun_at s i (omega (arith, c.loop-i-test.true)) (eqb-true _ _ (and_right (eqb (get_or s (i + 1) 0) (get_or p 1 0)) (eqb (get_or s i 0) slash) (sym c.begins_with.ensures ∙ c.if-begins_with.true))))
+
+pub loop-i-preserved : goal.loop-i-preserved
+loop-i-preserved c =
+    let p = c.args.pattern.now in
+    let s = c.args.path.now in
+    let i = c.loop-i.i in
+    let l = c.loop-i-test.true in
+    skip_on (OffLabels (labels_of p) s) (length s) c.args.from i (omega (arith, l))
+    (off_unlike p s (omega (arith, c.if-pattern-lt2.false)) c.requires.0 c.if-c-eq-STAR.false i l (sym c.begins_with.ensures ∙ c.if-begins_with.false))
+    c.loop-i.invariant
+
+pub returns : goal.returns
+returns c =
+    let p = c.args.pattern.now in
+    let s = c.args.path.now in (
+      skip_to (OffLabels (labels_of p) s) (length s) c.args.from c.loop-i.i (length s + 1) c.loop-i.invariant.high (omega arith)
+          (λ j g m. off_last p s (omega (arith, c.if-pattern-lt2.false)) c.requires.0 c.if-c-eq-STAR.false c.if-c-eq-SLASH.false j (omega (arith, c.loop-i-test.false)))
+          c.loop-i.invariant,
+      begun_end s (length s + 1) (omega arith),
+    )

@@ -1,0 +1,15 @@
+-- `matcher::reach::ruled_out` meets its contract.
+use native.Mathlib.Omega.{arith}
+use Rattle.matcher.proofs.Ruled.{not_ruled, by_difference}
+use Rattle.matcher.proofs.reach.ruled_out.Goals as goal
+
+pub returns-then-literal-p : goal.returns-then-literal-p
+returns-then-literal-p c = let a = c.args in not_ruled a.pattern.now a.literal a.p a.s.now
+
+pub returns-then-pattern-literal : goal.returns-then-pattern-literal
+returns-then-pattern-literal c = let a = c.args in not_ruled a.pattern.now a.literal a.p a.s.now
+
+pub returns : goal.returns
+returns c =
+    let a = c.args in
+    by_difference a.pattern.now a.literal a.p a.s.now _ (omega (arith, c.if-literal-p.false)) c.differs.ensures

@@ -1,0 +1,6 @@
+-- The walk begins at no node, with nothing known.
+use Rattle.search.proofs.Whole.{trie_searched}
+use Rattle.search.proofs.walk.search_trie.Goals as goal
+
+pub returns : goal.returns
+returns c = trie_searched c.walk.ensures.searched c.walk.ensures.rows_bound.0 c.walk.ensures.rows_bound.1

@@ -1,0 +1,70 @@
+-- The fronts in the place of the node's.
+use native.Mathlib.Omega.{arith}
+use Prim.Native.Nat.{◌+◌, ◌-◌}
+use mathlib.Core.Path.{◌≡◌}
+use lib.ListN.{replicate}
+use Rattle.buffer.specs.Splice.{splice}
+use Rattle.trie_read.specs.Shape.{part}
+use Rattle.trie_read.proofs.Stretch.{length_part}
+use Rattle.trie_add.proofs.Fronts.{fronts, length_fronts, written}
+use Rattle.trie_add.proofs.split.put_parent.Goals as goal
+
+pub overflow_add-from : goal.overflow_add-from
+overflow_add-from c = omega (arith, c.requires)
+
+pub overflow_sub-fronts : goal.overflow_sub-fronts
+overflow_sub-fronts c = omega (arith, c.requires)
+
+pub overflow_add-fronts : goal.overflow_add-fronts
+overflow_add-fronts c = omega (arith, c.requires)
+
+pub overflow_cast-up : goal.overflow_cast-up
+overflow_cast-up c = omega (arith, c.requires)
+
+pub slice_bounds-put_fronts-end : goal.slice_bounds-put_fronts-end
+slice_bounds-put_fronts-end c = omega (arith, c.requires)
+
+pub slice_bounds-put_fronts-count : goal.slice_bounds-put_fronts-count
+slice_bounds-put_fronts-count c = omega (arith, c.requires)
+
+pub slice_bounds-put_fronts-start : goal.slice_bounds-put_fronts-start
+slice_bounds-put_fronts-start c = omega (arith, c.requires)
+
+pub slice_bounds-put_fronts-end-2 : goal.slice_bounds-put_fronts-end-2
+slice_bounds-put_fronts-end-2 c = omega (arith, c.requires)
+
+pub slice_bounds-put_fronts-count-2 : goal.slice_bounds-put_fronts-count-2
+slice_bounds-put_fronts-count-2 c = omega (arith, c.requires)
+
+pub slice_bounds-put_fronts-start-2 : goal.slice_bounds-put_fronts-start-2
+slice_bounds-put_fronts-start-2 c = omega (arith, c.requires)
+
+pub slice_bounds-put_fronts-end-3 : goal.slice_bounds-put_fronts-end-3
+slice_bounds-put_fronts-end-3 c = omega (arith, c.requires)
+
+pub slice_bounds-replace_front-count : goal.slice_bounds-replace_front-count
+slice_bounds-replace_front-count c = omega (arith, c.requires)
+
+pub slice_bounds-replace_front-start : goal.slice_bounds-replace_front-start
+slice_bounds-replace_front-start c = omega (arith, c.requires)
+
+pub slice_bounds-replace_front-end : goal.slice_bounds-replace_front-end
+slice_bounds-replace_front-end c = omega (arith, c.requires)
+
+pub shape_of-s : goal.shape_of-s
+shape_of-s c = omega (arith, c.requires)
+
+pub returns : goal.returns
+unfolding fronts
+returns c =
+    let a = c.args in
+    let s = a.s.now in
+    let nv = part (a.at + 7) a.start s in
+    let np = part a.start a.body s in
+    let lv = length_part s (a.at + 7) a.start (omega arith) in
+    let lp = length_part s a.start a.body (omega arith) in
+    let f = fronts a.c.value a.c.path a.c.kind a.size nv np a.kind a.own in
+    let l = length_fronts a.c.value a.c.path a.c.kind a.size nv np a.kind a.own (omega (arith, lv)) (omega (arith, lp)) in
+    let put = c.put_fronts.ensures in
+    let new : part 0 (a.body - a.at + 7) (splice (replicate 524 0) 0 f) ≡ f = written (replicate 524 0) f (a.body - a.at + 7) (omega (arith, l, lv, lp)) (omega (arith, l, lv, lp)) in
+    rw (put, new) at c.replace_front.ensures

@@ -1,0 +1,12 @@
+-- Suffix by suffix (`Suffixed`).
+use native.Mathlib.Omega.{arith}
+use Prim.Native.Nat.{◌-◌, ◌≤◌}
+use mathlib.Core.Path.{◌≡◌}
+use Rattle.trie_build.proofs.Wrote.{Suffixed, suffixed_none, suffixed_all, suffix_room, suffix_behind, suffixed_more}
+use Rattle.trie_build.proofs.nodes.put_suffixes.Given as goal
+
+abbrev pub invariant-loop-k : goal.invariant-loop-k
+invariant-loop-k l = (l.k ≤ l.n) × Suffixed l.initial.s l.at l.slots l.n l.value l.path l.s l.k l.o
+
+abbrev pub decreases-loop-k : goal.decreases-loop-k
+decreases-loop-k l = l.n - l.k

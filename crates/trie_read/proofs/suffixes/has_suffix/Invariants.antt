@@ -1,0 +1,18 @@
+-- The suffixes that are passed are not the key; what is left is shorter.
+use native.Mathlib.Omega.{arith}
+use mathlib.Core.Path.{◌≡◌, sym, ◌∙◌}
+use mathlib.Core.List.{List}
+use lib.ListN.{length}
+use Rattle.trie_theory.specs.Forest.{Key}
+use Rattle.buffer.specs.Lists.{All}
+use Rattle.trie_read.specs.Shape.{Fixed, key_of}
+use Rattle.trie_read.specs.Suffixes.{suffixes_bytes, Within}
+use Rattle.trie_read.specs.declared.suffixes.Tail.TheVariants.{At}
+use Rattle.trie_read.proofs.Among.{Among, among_start, among_end, among_bad, among_found, among_next}
+use Rattle.trie_read.proofs.suffixes.has_suffix.Given as goal
+
+abbrev pub invariant-loop-at : goal.invariant-loop-at
+invariant-loop-at l = (ts : List Key) → All Fixed ts → l.body ≡ suffixes_bytes ts → Among (key_of l.value l.path l.reference) l.b ts
+
+abbrev pub decreases-loop-at : goal.decreases-loop-at
+decreases-loop-at l = length l.b

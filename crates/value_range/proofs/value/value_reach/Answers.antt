@@ -1,0 +1,15 @@
+-- The answer by the span of all bytes known.
+use mathlib.Core.Path.{refl}
+use mathlib.Core.List.{[]}
+use native.Mathlib.Omega.{arith}
+use Rattle.entries.specs.Query.{asked}
+use Rattle.value_range.proofs.Ranges.{out_long, spans_first}
+use Rattle.value_range.proofs.value.value_reach.Goals as goal
+
+pub returns-then-known-gt-VALUE_SIZE : goal.returns-then-known-gt-VALUE_SIZE
+returns-then-known-gt-VALUE_SIZE c = λ p. out_long p _ _ _ c.if-known-gt-VALUE_SIZE.true
+
+pub returns : goal.returns
+returns c =
+    let a = c.args in
+    λ p. c.value_with.ensures (asked p a.low a.high) [] refl (spans_first _ _ _ _ (omega arith) c.steps-span.ensures)
