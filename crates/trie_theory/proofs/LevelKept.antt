@@ -25,7 +25,7 @@ unders p (cons {x = x} h a) = ap₂ ◌∷◌ (under_remains p x h) (unders p a)
 
 module _ (n τ : ℕ) (h : Key → ℕ) where
   -- the tries of parts have the keys of the parts, if each trie has
-  each_sum : {d b : ℕ} {p : Strings} {ps : List (List Key)} (g : List Key → Forest → Forest)
+  each_sum : {d : ℕ} {p : Strings} {b : ℕ} {ps : List (List Key)} (g : List Key → Forest → Forest)
       → ((x : Key) (xs : List Key) (more : Forest) → All (From p) (x ∷ xs)
       → sum h (keys p (g (x ∷ xs) more)) ≡ sum h (x ∷ xs) + sum h (keys p more))
       → Partition d p (From p) b ps → sum h (keys p (each g ps)) ≡ sum h (flat ps)

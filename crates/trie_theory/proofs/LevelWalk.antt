@@ -11,7 +11,7 @@ use lib.Dec.{eqb}
 use borrow.Author.Tests.{eqb-true, eqb-false, eq-eqb}
 use Rattle.trie_theory.specs.Forest.{Strings, Key, Forest, keys}
 use Rattle.buffer.specs.Lists.{All}
-use Rattle.trie_theory.specs.Strings.{all_begin, remains, at}
+use Rattle.trie_theory.specs.Strings.{all_begin, remains}
 use Rattle.trie_theory.specs.Dimensions.{Above, root, below}
 use Rattle.trie_theory.specs.Position.{shared, byte, position, differ}
 use Rattle.trie_theory.specs.Parts.{keep, filled, parts_from, parts}
@@ -174,6 +174,7 @@ module _ (n τ : ℕ) (x : Key) where
 
 pub level_walk : (n τ : ℕ) (ks : List Key) (x : Key) → In x ks → walk [] (level_of n τ ks) x ≡ route n τ root ks x
 unfolding level_of trie route Prefixes
+level_walk n τ [] x i = elim i [ ]
 level_walk n τ (y ∷ ys) x i = grow_walk n τ x (length (y ∷ ys)) root [] (y ∷ ys) Forest.none (all_every (y ∷ ys) (λ z. tt)) i
 
 -- its positions are those of Definition 5

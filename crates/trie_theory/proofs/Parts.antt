@@ -225,7 +225,7 @@ parts_two d x xs e = go (partition (From p) d (shared_all ks)) (λ h. sum_parts 
     go (part c l u a (part c' l' u' a' r)) s = omega arith
 
 -- a part has fewer keys than all have
-others : {d b : ℕ} {p : Strings} {P : Key → Type 0} {ps : List (List Key)} → Partition d p P b ps
+others : {d : ℕ} {p : Strings} {P : Key → Type 0} {b : ℕ} {ps : List (List Key)} → Partition d p P b ps
     → All (λ q. length q + length ps ≤ suc (length (flat ps))) ps
 unfolding flat
 others done = nil
@@ -233,7 +233,7 @@ others (part {x = x} {xs = xs} {ps = ps} c l u a r) =
     cons {x = x ∷ xs} (let m = few r in omega (arith, length-append xs (flat ps)))
     (all_imp (λ q m. omega (arith, length-append xs (flat ps))) (others r))
   where
-    few : {d b : ℕ} {p : Strings} {P : Key → Type 0} {ps : List (List Key)} → Partition d p P b ps → length ps ≤ length (flat ps)
+    few : {d : ℕ} {p : Strings} {P : Key → Type 0} {b : ℕ} {ps : List (List Key)} → Partition d p P b ps → length ps ≤ length (flat ps)
     few done = omega arith
     few (part {x = x} {xs = xs} {ps = ps} c l u a r) = let m = few r in omega (arith, length-append xs (flat ps))
 
