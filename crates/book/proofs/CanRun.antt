@@ -130,10 +130,10 @@ make (read_level n j answer) h ty i = make_read n h i j answer
 
 -- ---- lists of calls
 
-from_book : {memory : List ℕ} {b : Book} (cs : List Call) → HoldsBook memory b → all (makeable (length memory)) cs ≡ true
+from_book : (cs : List Call) {memory : List ℕ} {b : Book} → HoldsBook memory b → all (makeable (length memory)) cs ≡ true
     → (rs : List Result) × (end : List ℕ) × Ran memory cs rs end
-from_book {memory} [] h a = ([], memory, done)
-from_book {memory} (c ∷ cs) h a =
+from_book [] {memory} h a = ([], memory, done)
+from_book (c ∷ cs) {memory} h a =
     let f = and_left (makeable (length memory) c) (all (makeable (length memory)) cs) a in
     let m = make c h (and_left (typed c) (leb (lent c) (length memory)) f) (leb-true (lent c) (length memory) (and_right (typed c) (leb (lent c) (length memory)) f)) in
     let g = one_call c h m.did in

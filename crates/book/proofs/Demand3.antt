@@ -25,6 +25,7 @@ goes_on h (next {c = c} d ran) =
 begins : {memory end : List ℕ} {calls : List Call} {results : List Result} → Ran memory calls results end → Begun calls results
     → AsTheBook blank calls results end
 unfolding answers after
+begins done s = elim s [ ]
 begins (next {memory = memory} d ran) (begun {n = n} {m = m} {l = l} {t = t} e) =
     let number : setup_number n m l t ≡ 0 = sym (rw (length-take-le n memory d.inside) at (ap (λ (x : Reply). x.number) d.promise.0.answers)) ∙ e in
     let a = setup_accepted blank d number in
