@@ -4,6 +4,9 @@
 
 ghost use Rattle.std.specs.Prelude.{◌≡◌, length};
 
+use console::Console;
+use std::io;
+
 const NEWLINE: [u8; 1] = [10];
 
 fn wide(b: u8) -> usize {
@@ -37,29 +40,29 @@ fn clear(s: &mut [u8; 64], at: usize, n: usize) {
 }
 
 // Writes the number in 4 bytes at `at`, and prints the number that then stands one byte before.
-fn put32(s: &mut [u8; 64], at: usize, x: u32) {
+fn put32(console: &mut Console, s: &mut [u8; 64], at: usize, x: u32) {
     if 1 <= at {
         if at <= 60 {
             buffer::numbers::put32(s, at, x);
             let back = buffer::numbers::get32(s, at - 1);
-            io::print_decimal(1, back as u64);
-            io::write_all(1, &NEWLINE);
+            console.print_decimal(back as u64);
+            console.print(&NEWLINE);
         }
     }
 }
 
-fn put64(s: &mut [u8; 64], at: usize, x: u64) {
+fn put64(console: &mut Console, s: &mut [u8; 64], at: usize, x: u64) {
     if 1 <= at {
         if at <= 56 {
             buffer::numbers::put64(s, at, x);
             let back = buffer::numbers::get64(s, at - 1);
-            io::print_decimal(1, back);
-            io::write_all(1, &NEWLINE);
+            console.print_decimal(back);
+            console.print(&NEWLINE);
         }
     }
 }
 
-fn run(s: &mut [u8; 64], c: &[u8])
+fn run(console: &mut Console, s: &mut [u8; 64], c: &[u8])
     requires { length c.now ≡ 16 }
 {
     let kind = c[0];
@@ -73,31 +76,33 @@ fn run(s: &mut [u8; 64], c: &[u8])
     } else if kind == 2 {
         clear(s, a, b);
     } else if kind == 3 {
-        put32(s, a, buffer::numbers::get32(c, 8));
+        put32(console, s, a, buffer::numbers::get32(c, 8));
     } else {
-        put64(s, a, buffer::numbers::get64(c, 8));
+        put64(console, s, a, buffer::numbers::get64(c, 8));
     }
 }
 
-fn print(s: &[u8; 64]) {
+fn print(console: &mut Console, s: &[u8; 64]) {
     let mut i: usize = 0;
     while i < 64 {
-        io::print_hex(1, wide(s[i]) as u64, 2);
+        console.print_hex(s[i]);
         i += 1;
     }
-    io::write_all(1, &NEWLINE);
+    console.print(&NEWLINE);
 }
 
-fn main() {
-    let mut input = io::large_buffer();
-    let n = io::read_full(0, &mut input);
+fn main(rt: HostRuntime) -> io::Result<()> {
+    let mut console = Console::new(rt.stdin(), rt.stdout());
+    let mut input = [0u8; 65536];
+    let n = console.read_full(&mut input);
     let mut s = [0u8; 64];
     let mut i: usize = 0;
     while i < n / 16 {
         let at = 16 * i;
         let end = at + 16;
-        run(&mut s, &input[at..end]);
-        print(&s);
+        run(&mut console, &mut s, &input[at..end]);
+        print(&mut console, &s);
         i += 1;
     }
+    console.finish()
 }

@@ -8,21 +8,24 @@ ghost use Rattle.session.specs.Sizes.{store_size, answer_size, print_limit};
 ghost use Rattle.session.specs.Keeps.{state};
 ghost use Rattle.session.specs.Whole.{FedBytes, FedSome, FedLog, start};
 
+use console::Console;
 use logline::sizes::LINE_LIMIT;
 use session::feed::{feed_byte, feed_end};
 use session::sizes::{ANSWER_SIZE, PRINT_LIMIT, STORE_SIZE};
+use std::io;
 
 // More reads than any input needs: the loop has to end.
 const READS: u64 = 18446744073709551615;
 
-fn print_front(out: &[u8], n: usize)
+fn print_front(console: &mut Console, out: &[u8], n: usize)
     requires { n ≤ length out.now }
 {
-    io::write_all(1, &out[0..n]);
+    console.print(&out[0..n]);
 }
 
 // Feeds the bytes of a chunk in turn, and prints what each completes; returns how many bytes the line then has.
 fn feed_chunk(
+    console: &mut Console,
     start: usize,
     line: &mut [u8],
     chunk: &[u8],
@@ -37,7 +40,7 @@ fn feed_chunk(
     let mut i: usize = 0;
     while i < chunk.len() {
         let fed = feed_byte(len, line, chunk[i], store, answer, out);
-        print_front(out, fed.printed);
+        print_front(console, out, fed.printed);
         len = fed.len;
         i += 1;
     }
@@ -46,6 +49,7 @@ fn feed_chunk(
 
 // Reads until the input ends, and feeds what comes; returns how many bytes the last line has that lacks its end.
 fn feed_all(
+    console: &mut Console,
     line: &mut [u8],
     chunk: &mut [u8],
     store: &mut [u8],
@@ -58,11 +62,11 @@ fn feed_all(
     let mut len: usize = 0;
     let mut reads: u64 = 0;
     while reads < READS {
-        let n = io::count(libc::read(0, chunk), chunk);
+        let n = console.read(chunk);
         if n == 0 {
             return len;
         }
-        len = feed_chunk(len, line, &chunk[0..n], store, answer, out);
+        len = feed_chunk(console, len, line, &chunk[0..n], store, answer, out);
         reads += 1;
     }
     len
@@ -71,6 +75,7 @@ fn feed_all(
 // Carries out the input on a store that is all zero; returns how many bytes of `out` are still to be printed. That no line is left out is read here, no
 // contract says it.
 fn run(
+    console: &mut Console,
     line: &mut [u8],
     chunk: &mut [u8],
     store: &mut [u8],
@@ -81,16 +86,25 @@ fn run(
     requires store_value { state 0 line.old store.old ≡ start line.old }
     ensures { (result ≤ print_limit) × FedLog (start line.old) (take result out.new) }
 {
-    let len = feed_all(line, chunk, store, answer, out);
+    let len = feed_all(console, line, chunk, store, answer, out);
     feed_end(len, line, store, answer, out)
 }
 
-fn main() {
+fn main(rt: HostRuntime) -> io::Result<()> {
+    let mut console = Console::new(rt.stdin(), rt.stdout());
     let mut store = [0u8; STORE_SIZE];
     let mut answer = [0u8; ANSWER_SIZE];
     let mut out = [0u8; PRINT_LIMIT];
     let mut line = [0u8; LINE_LIMIT];
     let mut chunk = [0u8; 4096];
-    let n = run(&mut line, &mut chunk, &mut store, &mut answer, &mut out);
-    print_front(&out, n);
+    let n = run(
+        &mut console,
+        &mut line,
+        &mut chunk,
+        &mut store,
+        &mut answer,
+        &mut out,
+    );
+    print_front(&mut console, &out, n);
+    console.finish()
 }

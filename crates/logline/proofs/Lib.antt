@@ -5,4 +5,3 @@ pub use Rattle.linespell.proofs.Writing
 pub use Rattle.linespell.proofs.Decimals
 mod Reading
 pub mod Feeding
-mod Walks

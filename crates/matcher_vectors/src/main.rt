@@ -4,9 +4,10 @@
 #![tactic(auto)]
 
 ghost use Rattle.std.specs.Prelude.{◌≤◌, ◌<◌, length};
-ghost use Rattle.io.specs.Counts.{IsPrefixLen};
 
+use console::Console;
 use matcher::reach::Answer;
+use std::io;
 
 // Where `byte` first stands at or after `from`, or the length.
 fn find(text: &[u8], from: usize, byte: u8) -> usize
@@ -34,7 +35,7 @@ fn digit(b: u8) -> u8
 
 // The bytes of a text of two digits for each; one digit left over, as `-`, is no byte.
 fn decode(text: &[u8], out: &mut [u8]) -> usize
-    ensures { IsPrefixLen result out.new }
+    ensures { result ≤ length out.new }
 {
     let pairs = text.len() / 2;
     let mut n: usize = 0;
@@ -83,7 +84,7 @@ fn next(i: usize, end: usize) -> usize
     end
 }
 
-fn answer(line: &[u8]) {
+fn answer(console: &mut Console, line: &[u8]) {
     if line.len() < 2 {
         return;
     }
@@ -98,16 +99,16 @@ fn answer(line: &[u8]) {
     let after = next(gap, line.len());
     let m = decode(&line[after..], &mut second);
     let text = [letter, b' '];
-    io::write_all(1, &text);
-    io::print_decimal(1, number(letter, &first[..n], &second[..m]));
-    io::write_all(1, b"\n");
+    console.print(&text);
+    console.print_decimal(number(letter, &first[..n], &second[..m]));
+    console.print(b"\n");
 }
 
-fn run(text: &[u8]) {
+fn run(console: &mut Console, text: &[u8]) {
     let mut at = 0;
     while at < text.len() {
         let end = find(text, at, b'\n');
-        answer(&text[at..end]);
+        answer(console, &text[at..end]);
         if end == text.len() {
             return;
         }
@@ -115,8 +116,10 @@ fn run(text: &[u8]) {
     }
 }
 
-fn main() {
-    let mut text = io::large_buffer();
-    let n = io::read_full(0, &mut text);
-    run(&text[..n]);
+fn main(rt: HostRuntime) -> io::Result<()> {
+    let mut console = Console::new(rt.stdin(), rt.stdout());
+    let mut text = [0u8; 65536];
+    let n = console.read_full(&mut text);
+    run(&mut console, &text[..n]);
+    console.finish()
 }

@@ -4,8 +4,10 @@
 ghost use Rattle.std.specs.Prelude.{◌+◌, ◌*◌, ◌≤◌, ◌<◌, length};
 ghost use Rattle.rows.specs.Sizes.{path_limit, row_size};
 
+use console::Console;
 use rows::order::Ordering;
 use rows::sizes::{LENGTH_AT, PATH_AT, RECORD_SIZE, REFERENCE_AT, ROW_SIZE};
+use std::io;
 
 // The last byte of a reference.
 const MARK_AT: usize = LENGTH_AT - 1;
@@ -74,67 +76,67 @@ fn wide(x: u8) -> u64
     x as u64
 }
 
-fn print_text(text: &[u8]) {
-    io::write_all(libc::STDOUT_FILENO, text);
+fn print_text(console: &mut Console, text: &[u8]) {
+    console.print(text);
 }
 
-fn print_hex(s: &[u8], from: usize, to: usize)
+fn print_hex(console: &mut Console, s: &[u8], from: usize, to: usize)
     requires { (from ≤ to) × (to ≤ length s.now) }
 {
     let mut i = from;
     while i < to {
-        io::print_hex(libc::STDOUT_FILENO, wide(s[i]), 2);
+        console.print_hex(s[i]);
         i += 1;
     }
 }
 
-fn print_number(n: u64) {
-    io::print_decimal(libc::STDOUT_FILENO, n);
+fn print_number(console: &mut Console, n: u64) {
+    console.print_decimal(n);
 }
 
 // Value, path, reference, and the byte after the row where there is one.
-fn print_record(s: &[u8], at: usize, width: usize)
+fn print_record(console: &mut Console, s: &[u8], at: usize, width: usize)
     requires { (row_size ≤ width) × (at + width ≤ length s.now) }
 {
-    print_number(buffer::numbers::get64(s, at));
-    print_text(b",");
+    print_number(console, buffer::numbers::get64(s, at));
+    print_text(console, b",");
     let start = at + PATH_AT;
     let end = start + wide(s[at + LENGTH_AT]) as usize;
     if end <= s.len() {
-        print_text(&s[start..end]);
+        print_text(console, &s[start..end]);
     }
-    print_text(b",");
-    print_hex(s, at + REFERENCE_AT, at + LENGTH_AT);
+    print_text(console, b",");
+    print_hex(console, s, at + REFERENCE_AT, at + LENGTH_AT);
     if ROW_SIZE < width {
-        print_text(b",");
-        print_hex(s, at + ROW_SIZE, at + ROW_SIZE + 1);
+        print_text(console, b",");
+        print_hex(console, s, at + ROW_SIZE, at + ROW_SIZE + 1);
     }
-    print_text(b"\n");
+    print_text(console, b"\n");
 }
 
-fn print_records(s: &[u8], from: usize, to: usize, width: usize)
+fn print_records(console: &mut Console, s: &[u8], from: usize, to: usize, width: usize)
     requires { (row_size ≤ width) × (to ≤ length s.now) × (from ≤ to) }
 {
     let mut at = from;
     while width <= to - at {
-        print_record(s, at, width);
+        print_record(console, s, at, width);
         at += width;
     }
 }
 
 // The records between the first three bytes and the one at `end`, and those bytes.
-fn print_case(s: &[u8], end: usize, width: usize)
+fn print_case(console: &mut Console, s: &[u8], end: usize, width: usize)
     requires { (row_size ≤ width) × (3 ≤ end) × (end < length s.now) }
 {
-    print_hex(s, 0, 3);
-    print_text(b"\n");
-    print_records(s, 3, end, width);
-    print_hex(s, end, end + 1);
-    print_text(b"\n");
+    print_hex(console, s, 0, 3);
+    print_text(console, b"\n");
+    print_records(console, s, 3, end, width);
+    print_hex(console, s, end, end + 1);
+    print_text(console, b"\n");
 }
 
 // Fills the lent bytes with n records behind three bytes and before one, sorts them and prints all.
-fn sort_in(s: &mut [u8], n: usize, width: usize)
+fn sort_in(console: &mut Console, s: &mut [u8], n: usize, width: usize)
     requires { (row_size ≤ width) × (4 + n * width ≤ length s.old) }
 {
     let end = 3 + n * width;
@@ -142,56 +144,58 @@ fn sort_in(s: &mut [u8], n: usize, width: usize)
     buffer::moves::copy_from(s, 0, &[1, 2, 3]);
     buffer::moves::copy_from(s, end, &[4]);
     rows::sort::sort(s, 3, n, width);
-    print_case(s, end, width);
+    print_case(console, s, end, width);
 }
 
-fn sort_case(n: usize, width: usize)
+fn sort_case(console: &mut Console, n: usize, width: usize)
     requires { (row_size ≤ width) × (4 + n * width ≤ 229004) }
 {
-    print_text(b"sort ");
-    print_number(n as u64);
-    print_text(b" of ");
-    print_number(width as u64);
-    print_text(b"\n");
+    print_text(console, b"sort ");
+    print_number(console, n as u64);
+    print_text(console, b" of ");
+    print_number(console, width as u64);
+    print_text(console, b"\n");
     let mut s = [0u8; 4 + 1000 * ROW_SIZE];
-    sort_in(&mut s, n, width);
+    sort_in(console, &mut s, n, width);
 }
 
 // Compares the rows of two entries.
-fn compare_case(v: u64, p: &[u8], r: u8, w: u64, q: &[u8], t: u8)
+fn compare_case(console: &mut Console, v: u64, p: &[u8], r: u8, w: u64, q: &[u8], t: u8)
     requires { (length p.now ≤ path_limit) × (length q.now ≤ path_limit) }
 {
     let mut x = [0u8; ROW_SIZE];
     let mut y = [0u8; ROW_SIZE];
     put(&mut x, 0, v, p, r);
     put(&mut y, 0, w, q, t);
-    print_record(&x, 0, ROW_SIZE);
+    print_record(console, &x, 0, ROW_SIZE);
     let o = rows::order::compare(&x, &y);
     match o {
-        Ordering::Less => print_text(b"comes before\n"),
-        Ordering::Equal => print_text(b"equals\n"),
-        Ordering::Greater => print_text(b"comes after\n"),
+        Ordering::Less => print_text(console, b"comes before\n"),
+        Ordering::Equal => print_text(console, b"equals\n"),
+        Ordering::Greater => print_text(console, b"comes after\n"),
     }
     if rows::order::equal(&x, &y) {
-        print_text(b"and is the same as\n");
+        print_text(console, b"and is the same as\n");
     } else {
-        print_text(b"and is not the same as\n");
+        print_text(console, b"and is not the same as\n");
     }
-    print_record(&y, 0, ROW_SIZE);
+    print_record(console, &y, 0, ROW_SIZE);
 }
 
-fn main() {
-    compare_case(7, b"/a", 9, 7, b"/a/b", 1);
-    compare_case(7, b"/a/b", 1, 7, b"/a", 9);
-    compare_case(7, b"/b", 0, 7, b"/a/b", 0);
-    compare_case(1, b"/z", 9, 256, b"/a", 0);
-    compare_case(5, b"/a", 2, 5, b"/a", 1);
-    compare_case(5, b"/a", 2, 5, b"/a", 2);
-    sort_case(0, ROW_SIZE);
-    sort_case(1, ROW_SIZE);
-    sort_case(2, ROW_SIZE);
-    sort_case(3, ROW_SIZE);
-    sort_case(100, ROW_SIZE);
-    sort_case(1000, ROW_SIZE);
-    sort_case(100, RECORD_SIZE);
+fn main(rt: HostRuntime) -> io::Result<()> {
+    let mut console = Console::new(rt.stdin(), rt.stdout());
+    compare_case(&mut console, 7, b"/a", 9, 7, b"/a/b", 1);
+    compare_case(&mut console, 7, b"/a/b", 1, 7, b"/a", 9);
+    compare_case(&mut console, 7, b"/b", 0, 7, b"/a/b", 0);
+    compare_case(&mut console, 1, b"/z", 9, 256, b"/a", 0);
+    compare_case(&mut console, 5, b"/a", 2, 5, b"/a", 1);
+    compare_case(&mut console, 5, b"/a", 2, 5, b"/a", 2);
+    sort_case(&mut console, 0, ROW_SIZE);
+    sort_case(&mut console, 1, ROW_SIZE);
+    sort_case(&mut console, 2, ROW_SIZE);
+    sort_case(&mut console, 3, ROW_SIZE);
+    sort_case(&mut console, 100, ROW_SIZE);
+    sort_case(&mut console, 1000, ROW_SIZE);
+    sort_case(&mut console, 100, RECORD_SIZE);
+    console.finish()
 }

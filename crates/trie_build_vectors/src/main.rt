@@ -8,8 +8,10 @@ ghost use Rattle.rows.specs.Sizes.{row_size};
 ghost use Rattle.entries.specs.Slots.{slot_size};
 ghost use Rattle.trie_sets.specs.Sets.{short_paths};
 
+use console::Console;
 use entries::SLOT_SIZE;
 use rows::sizes::ROW_SIZE;
+use std::io;
 use trie_sets::positions::{paths_are_short, split, wide};
 
 const SPACE: [u8; 1] = [32];
@@ -31,50 +33,50 @@ fn lay(s: &mut [u8], k: usize, row: &[u8])
     buffer::moves::copy_from(s, at, row);
 }
 
-fn print(s: &[u8], n: usize) {
+fn print(console: &mut Console, s: &[u8], n: usize) {
     let mut i: usize = 0;
     while i < n {
         if i < s.len() {
-            io::print_hex(1, wide(s[i]) as u64, 2);
+            console.print_hex(s[i]);
         }
         i += 1;
     }
-    io::write_all(1, &NEWLINE);
+    console.print(&NEWLINE);
 }
 
 // A position is one more than the bytes shared.
-fn print_position(shared: usize) {
-    io::write_all(1, &SPACE);
-    io::print_decimal(1, std::num::wrapping_add_u64(shared as u64, 1));
+fn print_position(console: &mut Console, shared: usize) {
+    console.print(&SPACE);
+    console.print_decimal((shared as u64).wrapping_add(1));
 }
 
-fn print_split(slots: &[u8], n: usize, tau: usize, above: usize)
+fn print_split(console: &mut Console, slots: &[u8], n: usize, tau: usize, above: usize)
     requires { (n * slot_size ≤ length slots.now) × (above ≤ 2) × (short_paths n slots.now ≡ true) }
 {
     if n == 0 {
         return;
     }
     let shape = split(slots, n, tau, above, 0, 0);
-    io::print_decimal(1, shape.kind as u64);
-    print_position(shape.path);
-    print_position(shape.value);
-    io::write_all(1, &NEWLINE);
+    console.print_decimal(shape.kind as u64);
+    print_position(console, shape.path);
+    print_position(console, shape.value);
+    console.print(&NEWLINE);
 }
 
-fn level(s: &mut [u8], n: usize, tau: usize, above: usize)
+fn level(console: &mut Console, s: &mut [u8], n: usize, tau: usize, above: usize)
     requires { (length s.old ≡ 24576) × (n ≤ 32) × (above ≤ 2) }
 {
     if paths_are_short(&s[SLOTS..SCRATCH], n) {
-        print_split(&s[SLOTS..SCRATCH], n, tau, above);
+        print_split(console, &s[SLOTS..SCRATCH], n, tau, above);
         let size = trie_build::build::build_level(s, 0, SLOTS, SCRATCH, n, tau);
-        print(s, size);
+        print(console, s, size);
     } else {
-        io::write_all(1, b"long\n");
+        console.print(b"long\n");
     }
 }
 
 // The set at `from` of the input; returns where it ends, or the end of the input where it is not whole.
-fn set(s: &mut [u8], input: &[u8], from: usize) -> usize
+fn set(console: &mut Console, s: &mut [u8], input: &[u8], from: usize) -> usize
     requires { (length s.old ≡ 24576) × (from < length input.now) }
     ensures { (from < result) × (result ≤ length input.now) }
 {
@@ -101,22 +103,24 @@ fn set(s: &mut [u8], input: &[u8], from: usize) -> usize
         lay(s, k, &input[at..end]);
         k += 1;
     }
-    level(s, n, tau, above);
+    level(console, s, n, tau, above);
     rows + n * ROW_SIZE
 }
 
-fn run(s: &mut [u8], input: &[u8])
+fn run(console: &mut Console, s: &mut [u8], input: &[u8])
     requires { length s.old ≡ 24576 }
 {
     let mut at: usize = 0;
     while at < input.len() {
-        at = set(s, input, at);
+        at = set(console, s, input, at);
     }
 }
 
-fn main() {
-    let mut input = io::large_buffer();
-    let n = io::read_full(0, &mut input);
+fn main(rt: HostRuntime) -> io::Result<()> {
+    let mut console = Console::new(rt.stdin(), rt.stdout());
+    let mut input = [0u8; 65536];
+    let n = console.read_full(&mut input);
     let mut s = [0u8; MEMORY];
-    run(&mut s, &input[0..n]);
+    run(&mut console, &mut s, &input[0..n]);
+    console.finish()
 }

@@ -14,8 +14,10 @@ ghost use Rattle.buffer.specs.Sizes.{four_byte_limit};
 ghost use Rattle.rows.specs.Sizes.{reference_size};
 ghost use Rattle.logline.specs.Sizes.{reference_digits};
 
+use console::Console;
 use logline::command::Command;
 use rows::sizes::{NODE_LIMIT, PATH_LIMIT, REFERENCE_SIZE, VALUE_SIZE};
+use std::io;
 use trie_read::head::{Head, read_head};
 use trie_read::sizes::{HEAD_SIZE, LEAF_SIZE, SUFFIX_SIZE};
 use trie_read::suffixes::{Tail, read_suffix};
@@ -27,22 +29,22 @@ const REGION_SIZE: usize = 65536;
 // The most that an addition adds beside the key's bytes: a leaf and a parent.
 const GROWTH: usize = LEAF_SIZE + HEAD_SIZE;
 
-fn print_text(text: &[u8]) {
-    io::write_all(libc::STDOUT_FILENO, text);
+fn print_text(console: &mut Console, text: &[u8]) {
+    console.print(text);
 }
 
-fn print_number(n: u64) {
-    io::print_decimal(libc::STDOUT_FILENO, n);
+fn print_number(console: &mut Console, n: u64) {
+    console.print_decimal(n);
 }
 
 fn wide(x: u8) -> u64 {
     x as u64
 }
 
-fn print_hex(s: &[u8]) {
+fn print_hex(console: &mut Console, s: &[u8]) {
     let mut i: usize = 0;
     while i < s.len() {
-        io::print_hex(libc::STDOUT_FILENO, wide(s[i]), 2);
+        console.print_hex(s[i]);
         i += 1;
     }
 }
@@ -61,70 +63,71 @@ fn is_plain(b: u8) -> bool {
 }
 
 // A byte of a path; `%` and two digits for one that would not be read as it stands.
-fn print_byte(b: u8) {
+fn print_byte(console: &mut Console, b: u8) {
     if is_plain(b) {
         let text = [b];
-        print_text(&text);
+        print_text(console, &text);
         return;
     }
-    print_text(b"%");
-    io::print_hex(libc::STDOUT_FILENO, wide(b), 2);
+    print_text(console, b"%");
+    console.print_hex(b);
 }
 
-fn print_path(s: &[u8]) {
-    print_text(b" \"");
+fn print_path(console: &mut Console, s: &[u8]) {
+    print_text(console, b" \"");
     let mut i: usize = 0;
     while i < s.len() {
-        print_byte(s[i]);
+        print_byte(console, s[i]);
         i += 1;
     }
-    print_text(b"\"");
+    print_text(console, b"\"");
 }
 
-fn print_indent(n: usize) {
+fn print_indent(console: &mut Console, n: usize) {
     let mut i: usize = 0;
     while i < n {
-        print_text(b"  ");
+        print_text(console, b"  ");
         i += 1;
     }
 }
 
-fn print_kind(kind: usize) {
+fn print_kind(console: &mut Console, kind: usize) {
     if kind == 0 {
-        print_text(b"leaf ");
+        print_text(console, b"leaf ");
     } else if kind == 1 {
-        print_text(b"V ");
+        print_text(console, b"V ");
     } else if kind == 2 {
-        print_text(b"P ");
+        print_text(console, b"P ");
     } else {
-        print_text(b"unknown ");
+        print_text(console, b"unknown ");
     }
 }
 
-fn print_node(kind: usize, value: &[u8], path: &[u8], indent: usize) {
-    print_indent(indent);
-    print_kind(kind);
-    print_hex(value);
-    print_path(path);
-    print_text(b"\n");
+fn print_node(console: &mut Console, kind: usize, value: &[u8], path: &[u8], indent: usize) {
+    print_indent(console, indent);
+    print_kind(console, kind);
+    print_hex(console, value);
+    print_path(console, path);
+    print_text(console, b"\n");
 }
 
-fn print_suffix(value: &[u8], path: &[u8], reference: &[u8], indent: usize) {
-    print_indent(indent);
-    print_text(b"- ");
-    print_hex(value);
-    print_path(path);
-    print_text(b" ");
-    print_hex(reference);
-    print_text(b"\n");
+fn print_suffix(console: &mut Console, value: &[u8], path: &[u8], reference: &[u8], indent: usize) {
+    print_indent(console, indent);
+    print_text(console, b"- ");
+    print_hex(console, value);
+    print_path(console, path);
+    print_text(console, b" ");
+    print_hex(console, reference);
+    print_text(console, b"\n");
 }
 
-fn draw_suffixes(body: &[u8], indent: usize) {
+fn draw_suffixes(console: &mut Console, body: &[u8], indent: usize) {
     let mut b = body;
     loop {
         match read_suffix(b) {
             Tail::At { path, next } => {
                 print_suffix(
+                    console,
                     &b[SUFFIX_SIZE..path],
                     &b[path..next],
                     &b[2..SUFFIX_SIZE],
@@ -136,7 +139,7 @@ fn draw_suffixes(body: &[u8], indent: usize) {
                 return;
             }
             Tail::Bad => {
-                print_text(b"no suffix\n");
+                print_text(console, b"no suffix\n");
                 return;
             }
         }
@@ -144,7 +147,7 @@ fn draw_suffixes(body: &[u8], indent: usize) {
 }
 
 // Draws tries side by side: the first, what stands below it, and the others.
-fn draw(t: &[u8], indent: usize)
+fn draw(console: &mut Console, t: &[u8], indent: usize)
     requires { indent + length t.now < four_byte_limit }
 {
     match read_head(t) {
@@ -154,49 +157,56 @@ fn draw(t: &[u8], indent: usize)
             body,
             next,
         } => {
-            print_node(kind, &t[HEAD_SIZE..path], &t[path..body], indent);
+            print_node(console, kind, &t[HEAD_SIZE..path], &t[path..body], indent);
             if kind == 0 {
-                draw_suffixes(&t[body..next], indent + 1);
+                draw_suffixes(console, &t[body..next], indent + 1);
             } else {
-                draw(&t[body..next], indent + 1);
+                draw(console, &t[body..next], indent + 1);
             }
-            draw(&t[next..], indent);
+            draw(console, &t[next..], indent);
         }
         Head::End => {}
         Head::Bad => {
-            print_text(b"no node\n");
+            print_text(console, b"no node\n");
         }
     }
 }
 
 // Draws the trie, says how many bytes it has, and clears them.
-fn end_set(s: &mut [u8], used: usize)
+fn end_set(console: &mut Console, s: &mut [u8], used: usize)
     requires { (used ≤ length s.old) × (length s.old < four_byte_limit) }
 {
-    print_number(used as u64);
-    print_text(b" bytes\n");
-    draw(&s[0..used], 0);
+    print_number(console, used as u64);
+    print_text(console, b" bytes\n");
+    draw(console, &s[0..used], 0);
     buffer::moves::clear(s, 0, used);
 }
 
-fn ask(s: &[u8], used: usize, value: &[u8], path: &[u8], reference: &[u8])
+fn ask(console: &mut Console, s: &[u8], used: usize, value: &[u8], path: &[u8], reference: &[u8])
     requires { used ≤ length s.now }
 {
     if trie_read::lookup::contains(&s[0..used], value, path, reference) {
-        print_text(b"1\n");
+        print_text(console, b"1\n");
     } else {
-        print_text(b"0\n");
+        print_text(console, b"0\n");
     }
 }
 
 // Adds a key to the trie in the first `used` bytes and answers how many it has now.
-fn grow(s: &mut [u8], used: usize, value: &[u8], path: &[u8], reference: &[u8]) -> usize
+fn grow(
+    console: &mut Console,
+    s: &mut [u8],
+    used: usize,
+    value: &[u8],
+    path: &[u8],
+    reference: &[u8],
+) -> usize
     requires used_in_bounds { (used ≤ length s.old) × (length s.old < four_byte_limit) }
     requires value_len_bound { (length value.now < 256) × (length path.now < 256) × (length reference.now ≡ reference_size) }
     ensures { result ≤ length s.new }
 {
     if s.len() - used < GROWTH + value.len() + path.len() {
-        print_text(b"full\n");
+        print_text(console, b"full\n");
         return used;
     }
     let n = trie_add::add::add(s, 0, used, used, 0, NODE_LIMIT, value, path, reference);
@@ -204,12 +214,20 @@ fn grow(s: &mut [u8], used: usize, value: &[u8], path: &[u8], reference: &[u8]) 
 }
 
 // An entry as a key: its value in bytes, its path with the end byte.
-fn apply(s: &mut [u8], used: usize, asks: bool, value: u64, path: &[u8], reference: &[u8]) -> usize
+fn apply(
+    console: &mut Console,
+    s: &mut [u8],
+    used: usize,
+    asks: bool,
+    value: u64,
+    path: &[u8],
+    reference: &[u8],
+) -> usize
     requires { (used ≤ length s.old) × (length s.old < four_byte_limit) × (length reference.now ≡ reference_size) }
     ensures { result ≤ length s.new }
 {
     if PATH_LIMIT < path.len() {
-        print_text(b"path over 200\n");
+        print_text(console, b"path over 200\n");
         return used;
     }
     let mut v = [0u8; VALUE_SIZE];
@@ -218,13 +236,14 @@ fn apply(s: &mut [u8], used: usize, asks: bool, value: u64, path: &[u8], referen
     buffer::moves::copy_from(&mut p, 0, path);
     let end = path.len() + 1;
     if asks {
-        ask(s, used, &v, &p[0..end], reference);
+        ask(console, s, used, &v, &p[0..end], reference);
         return used;
     }
-    grow(s, used, &v, &p[0..end], reference)
+    grow(console, s, used, &v, &p[0..end], reference)
 }
 
 fn apply_line(
+    console: &mut Console,
     s: &mut [u8],
     used: usize,
     asks: bool,
@@ -239,6 +258,7 @@ fn apply_line(
     let mut reference = [0u8; REFERENCE_SIZE];
     logline::fields::reference(line, at, &mut reference);
     apply(
+        console,
         s,
         used,
         asks,
@@ -248,7 +268,7 @@ fn apply_line(
     )
 }
 
-fn read_line(s: &mut [u8], used: usize, asks: bool, line: &[u8]) -> usize
+fn read_line(console: &mut Console, s: &mut [u8], used: usize, asks: bool, line: &[u8]) -> usize
     requires { (used ≤ length s.old) × (length s.old < four_byte_limit) }
     ensures { result ≤ length s.new }
 {
@@ -259,34 +279,34 @@ fn read_line(s: &mut [u8], used: usize, asks: bool, line: &[u8]) -> usize
         path,
     } = command
     else {
-        print_text(b"misread\n");
+        print_text(console, b"misread\n");
         return used;
     };
-    apply_line(s, used, asks, line, value, reference, path)
+    apply_line(console, s, used, asks, line, value, reference, path)
 }
 
-fn print_title(line: &[u8]) {
-    print_text(line);
-    print_text(b"\n");
+fn print_title(console: &mut Console, line: &[u8]) {
+    print_text(console, line);
+    print_text(console, b"\n");
 }
 
-fn step(s: &mut [u8], used: usize, line: &[u8]) -> usize
+fn step(console: &mut Console, s: &mut [u8], used: usize, line: &[u8]) -> usize
     requires { (used ≤ length s.old) × (length s.old < four_byte_limit) }
     ensures { result ≤ length s.new }
 {
     if line.len() == 0 {
-        end_set(s, used);
+        end_set(console, s, used);
         return 0;
     }
     let mark = line[0];
     if mark == b'#' {
-        print_title(line);
+        print_title(console, line);
         return used;
     }
     if mark == b'?' {
-        return read_line(s, used, true, &line[1..]);
+        return read_line(console, s, used, true, &line[1..]);
     }
-    read_line(s, used, false, line)
+    read_line(console, s, used, false, line)
 }
 
 // Where the line that begins at `from` ends.
@@ -304,14 +324,14 @@ fn line_end(text: &[u8], from: usize) -> usize
     i
 }
 
-fn run(s: &mut [u8], text: &[u8])
+fn run(console: &mut Console, s: &mut [u8], text: &[u8])
     requires { length s.old < four_byte_limit }
 {
     let mut used: usize = 0;
     let mut at: usize = 0;
     while at < text.len() {
         let end = line_end(text, at);
-        used = step(s, used, &text[at..end]);
+        used = step(console, s, used, &text[at..end]);
         if end == text.len() {
             return;
         }
@@ -319,9 +339,11 @@ fn run(s: &mut [u8], text: &[u8])
     }
 }
 
-fn main() {
+fn main(rt: HostRuntime) -> io::Result<()> {
+    let mut console = Console::new(rt.stdin(), rt.stdout());
     let mut text = [0u8; INPUT_SIZE];
-    let n = io::read_full(0, &mut text);
+    let n = console.read_full(&mut text);
     let mut s = [0u8; REGION_SIZE];
-    run(&mut s, &text[..n]);
+    run(&mut console, &mut s, &text[..n]);
+    console.finish()
 }

@@ -1,9 +1,7 @@
 -- What the bytes from i on make of the number so far is what all bytes make of 0.
 use native.Mathlib.Omega.{arith}
-use Prim.Native.Nat.{◌-◌, ◌^◌, ◌≤◌, ◌<◌}
 use mathlib.Core.Path.{◌≡◌, refl, sym, ◌∙◌}
-use lib.ListN.{length, drop, get_or}
-use Rattle.linefields.specs.Fields.{number_from}
+use lib.ListN.{get_or}
 use Rattle.linefields.proofs.Scan.{number_end, number_digit, number_below, number_above, number_large}
 use Rattle.linefields.proofs.fields.digits.Goals as goal
 

@@ -1,10 +1,8 @@
 -- What the bytes from i on make of the number so far is what all bytes make of 0.
-use native.Mathlib.Omega.{arith}
 use Prim.Native.Nat.{◌-◌, ◌^◌, ◌≤◌, ◌<◌}
-use mathlib.Core.Path.{◌≡◌, refl, sym, ◌∙◌}
-use lib.ListN.{length, drop, get_or}
+use mathlib.Core.Path.{◌≡◌}
+use lib.ListN.{length, drop}
 use Rattle.linefields.specs.Fields.{number_from}
-use Rattle.linefields.proofs.Scan.{number_end, number_digit, number_below, number_above, number_large}
 use Rattle.linefields.proofs.fields.digits.Given as goal
 
 abbrev pub invariant-loop-i : goal.invariant-loop-i

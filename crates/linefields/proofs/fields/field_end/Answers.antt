@@ -1,9 +1,6 @@
 -- Up to i no comma was passed, so the end of the field is as far from `from` as from i.
 use native.Mathlib.Omega.{arith}
-use Prim.Native.Nat.{◌+◌, ◌-◌, ◌≤◌}
-use mathlib.Core.Path.{◌≡◌, refl}
-use lib.ListN.{length, drop}
-use Rattle.linefields.specs.Fields.{width}
+use mathlib.Core.Path.{refl}
 use Rattle.linefields.proofs.Scan.{width_comma, width_more, width_end}
 use Rattle.linefields.proofs.fields.field_end.Goals as goal
 

@@ -1,10 +1,8 @@
 -- Up to i no comma was passed, so the end of the field is as far from `from` as from i.
-use native.Mathlib.Omega.{arith}
 use Prim.Native.Nat.{◌+◌, ◌-◌, ◌≤◌}
-use mathlib.Core.Path.{◌≡◌, refl}
+use mathlib.Core.Path.{◌≡◌}
 use lib.ListN.{length, drop}
 use Rattle.linefields.specs.Fields.{width}
-use Rattle.linefields.proofs.Scan.{width_comma, width_more, width_end}
 use Rattle.linefields.proofs.fields.field_end.Given as goal
 
 abbrev pub invariant-loop-i : goal.invariant-loop-i

@@ -1,11 +1,7 @@
 -- Up to i every byte was a hex digit.
 use borrow.Author.Tests.{not-true, not-false}
 use native.Mathlib.Omega.{arith}
-use Prim.Native.Nat.{◌-◌, ◌≤◌}
-use mathlib.Core.Path.{◌≡◌, refl, sym, ◌∙◌}
-use lib.ListN.{length, drop}
-use Rattle.buffer.specs.Lists.{all}
-use Rattle.linefields.specs.Fields.{hex_digit}
+use mathlib.Core.Path.{refl, sym, ◌∙◌}
 use Rattle.linefields.proofs.Scan.{all_turn, all_stop, all_end, reference_short, reference_is}
 use Rattle.linefields.proofs.fields.is_reference.Goals as goal
 

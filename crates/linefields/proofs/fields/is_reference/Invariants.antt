@@ -1,12 +1,9 @@
 -- Up to i every byte was a hex digit.
-use borrow.Author.Tests.{not-true, not-false}
-use native.Mathlib.Omega.{arith}
 use Prim.Native.Nat.{◌-◌, ◌≤◌}
-use mathlib.Core.Path.{◌≡◌, refl, sym, ◌∙◌}
+use mathlib.Core.Path.{◌≡◌}
 use lib.ListN.{length, drop}
 use Rattle.buffer.specs.Lists.{all}
 use Rattle.linefields.specs.Fields.{hex_digit}
-use Rattle.linefields.proofs.Scan.{all_turn, all_stop, all_end, reference_short, reference_is}
 use Rattle.linefields.proofs.fields.is_reference.Given as goal
 
 abbrev pub invariant-loop-i : goal.invariant-loop-i

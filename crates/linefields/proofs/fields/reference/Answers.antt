@@ -1,9 +1,9 @@
 -- After i turns the first i bytes are those of the first 2 i digits.
 use native.Mathlib.Omega.{arith}
-use Prim.Native.Nat.{◌*◌, ◌-◌, ◌≤◌}
+use Prim.Native.Nat.{◌*◌}
 use mathlib.Core.Path.{◌≡◌, ◌∙◌}
 use lib.ListN.{length, length-set}
-use Rattle.buffer.specs.Splice.{splice, region}
+use Rattle.buffer.specs.Splice.{region}
 use Rattle.buffer.proofs.Splice.{splice_whole, length_region}
 use Rattle.linefields.specs.Fields.{unhex}
 use Rattle.linefields.proofs.Hex.{unhex_none, unhex_turn, length_unhex}

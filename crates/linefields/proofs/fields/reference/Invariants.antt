@@ -1,12 +1,9 @@
 -- After i turns the first i bytes are those of the first 2 i digits.
-use native.Mathlib.Omega.{arith}
 use Prim.Native.Nat.{◌*◌, ◌-◌, ◌≤◌}
-use mathlib.Core.Path.{◌≡◌, ◌∙◌}
-use lib.ListN.{length, length-set}
+use mathlib.Core.Path.{◌≡◌}
+use lib.ListN.{length}
 use Rattle.buffer.specs.Splice.{splice, region}
-use Rattle.buffer.proofs.Splice.{splice_whole, length_region}
 use Rattle.linefields.specs.Fields.{unhex}
-use Rattle.linefields.proofs.Hex.{unhex_none, unhex_turn, length_unhex}
 use Rattle.linefields.proofs.fields.reference.Given as goal
 
 abbrev pub invariant-loop-i : goal.invariant-loop-i

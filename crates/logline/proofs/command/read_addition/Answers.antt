@@ -25,7 +25,7 @@ returns-then-not-is_reference c =
     let a = c.args in
     let f = number_there _ _ _ c.read_number.ensures _ _ c.in-Numeral.is in
     let g = there a.s.now _ _ c.field_end-b.ensures c.if-b-s.false in
-    let r = sym c.is_reference.ensures ∙ not-true _ c.if-not-is_reference.true-raw in
+    let r = sym c.is_reference.ensures ∙ c.if-not-is_reference.true in
     misreads _ _ (f _ ∙ rw (g, r))
 
 pub returns : goal.returns

@@ -1,0 +1,80 @@
+// Standard input and output of the programs. After a read or a write that failed nothing more is read or written, and `finish`
+// returns that failure for `main` to return.
+#![tactic(auto)]
+
+ghost use Rattle.std.specs.Prelude.{◌≤◌, length};
+
+use std::io;
+use std::io::{Read, Stdin, Stdout, Write};
+
+#[derive(Drop)]
+pub struct Console {
+    input: Stdin,
+    output: Stdout,
+    outcome: io::Result<()>,
+}
+
+impl Console {
+    pub fn new(input: Stdin, output: Stdout) -> Console {
+        Console {
+            input,
+            output,
+            outcome: Ok(()),
+        }
+    }
+
+    // Writes all the bytes.
+    pub fn print(&mut self, bytes: &[u8]) {
+        if self.outcome.is_ok() {
+            self.outcome = self.output.write_all(bytes);
+        }
+    }
+
+    pub fn print_decimal(&mut self, n: u64) {
+        if self.outcome.is_ok() {
+            self.outcome = write!(self.output, "{n}");
+        }
+    }
+
+    // Two hex digits.
+    pub fn print_hex(&mut self, b: u8) {
+        if self.outcome.is_ok() {
+            self.outcome = write!(self.output, "{b:02x}");
+        }
+    }
+
+    // One read; 0 at the end of the input.
+    pub fn read(&mut self, buf: &mut [u8]) -> usize
+        ensures { result ≤ length buf.new }
+    {
+        if self.outcome.is_err() {
+            return 0;
+        }
+        match self.input.read(buf) {
+            Ok(n) => n,
+            Err(e) => {
+                self.outcome = Err(e);
+                0
+            }
+        }
+    }
+
+    // Reads until the buffer is full or the input ends.
+    pub fn read_full(&mut self, buf: &mut [u8]) -> usize
+        ensures { result ≤ length buf.new }
+    {
+        let mut done: usize = 0;
+        while done < buf.len() {
+            let n = self.read(&mut buf[done..]);
+            if n == 0 {
+                return done;
+            }
+            done += n;
+        }
+        done
+    }
+
+    pub fn finish(self) -> io::Result<()> {
+        self.outcome
+    }
+}
