@@ -1,6 +1,4 @@
 -- One law for each test.
-use Prim.Native.Nat.{ℕ, ◌<◌}
-use lib.ListN.{length}
 use borrow.Author.Tests.{eq-eqb, ne_eqb}
 use Rattle.glob.proofs.Begins.{begins_end, begins_done, begins_more}
 use Rattle.glob.proofs.begin.+label_begins.Goals as goal

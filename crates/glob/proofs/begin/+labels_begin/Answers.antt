@@ -1,9 +1,8 @@
 -- One law for each test.
 use borrow.Author.Rules.{rules}
 use mathlib.Core.Path.{sym, ◌∙◌}
-use Prim.Native.Nat.{ℕ, ◌<◌}
+use Prim.Native.Nat.{ℕ}
 use native.Mathlib.Omega.{arith}
-use lib.ListN.{length}
 use Rattle.glob.specs.Inner.{Cut}
 use Rattle.glob.proofs.Cuts.{cut_law}
 use Rattle.glob.proofs.Begins.{labels_end, labels_few, labels_more, labels_deep, last_cut, other_cut}

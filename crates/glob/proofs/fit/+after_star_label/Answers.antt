@@ -2,7 +2,7 @@
 use mathlib.Core.Path.{◌≡◌, sym, subst}
 use mathlib.Core.List.{List}
 use mathlib.Core.Bool.{Bool, false}
-use Prim.Native.Nat.{ℕ, ◌+◌, ◌*◌, ◌-◌, ◌<◌, ◌≤◌}
+use Prim.Native.Nat.{ℕ, ◌+◌}
 use native.Mathlib.Omega.{arith}
 use lib.ListN.{length, get_or}
 use lib.Dec.{eqb}
@@ -12,7 +12,7 @@ use Rattle.glob.specs.Inner.{Says, OffLabel}
 use Rattle.glob.specs.declared.fit.Trial.TheVariants.{Fits, Never}
 use Rattle.glob.proofs.Parts.{rest, split, back, back_all, no_items, an_item}
 use Rattle.glob.proofs.Skips.{through}
-use Rattle.glob.proofs.Trials.{Tried, tried_none, tried_step, some_none, now_some, never_twice, first_off, star_law, byte_law, end_law, alike_first}
+use Rattle.glob.proofs.Trials.{tried_none, tried_step, some_none, now_some, never_twice, first_off, star_law, byte_law, end_law, alike_first}
 use Rattle.glob.proofs.fit.+after_star_label.Invariants.{Taken}
 use Rattle.glob.proofs.fit.+after_star_label.Goals as goal
 

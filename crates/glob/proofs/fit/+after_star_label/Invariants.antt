@@ -1,19 +1,11 @@
 -- The proof of the cycle of calls {after_star, label}. The measure is the pattern's bytes left, twice, and one more for `after_star`, which calls
 -- `label` with the pattern that it is given. The invariant of the loop: `Tried`.
-use mathlib.Core.Path.{◌≡◌, sym, subst}
 use mathlib.Core.List.{List}
-use mathlib.Core.Bool.{Bool, false}
-use Prim.Native.Nat.{ℕ, ◌+◌, ◌*◌, ◌-◌, ◌<◌, ◌≤◌}
-use native.Mathlib.Omega.{arith}
-use lib.ListN.{length, get_or}
-use lib.Dec.{eqb}
-use borrow.Author.Tests.{ne_eqb}
-use Rattle.glob.specs.Fit.{first, fits_label}
-use Rattle.glob.specs.Inner.{Says, OffLabel}
-use Rattle.glob.specs.declared.fit.Trial.TheVariants.{Fits, Never}
-use Rattle.glob.proofs.Parts.{rest, split, back, back_all, no_items, an_item}
-use Rattle.glob.proofs.Skips.{through}
-use Rattle.glob.proofs.Trials.{Tried, tried_none, tried_step, some_none, now_some, never_twice, first_off, star_law, byte_law, end_law, alike_first}
+use Prim.Native.Nat.{ℕ, ◌+◌, ◌*◌, ◌-◌, ◌≤◌}
+use lib.ListN.{length}
+use Rattle.glob.specs.Fit.{fits_label}
+use Rattle.glob.proofs.Parts.{back}
+use Rattle.glob.proofs.Trials.{Tried}
 use Rattle.glob.proofs.fit.+after_star_label.Given as goal
 
 -- `*` has taken the bytes before i

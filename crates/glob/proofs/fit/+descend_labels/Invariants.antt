@@ -1,22 +1,13 @@
 -- The proof of the cycle of calls {descend, labels}. The measure is the bytes left of both, twice, and one more for `descend`, which calls `labels`
 -- with the pattern that it is given. The invariant of the loop: `Tried`.
-use borrow.Author.Rules.{rules}
-use mathlib.Core.Path.{sym, ap, subst, ◌∙◌}
 use mathlib.Core.List.{List}
-use mathlib.Core.Bool.{Bool}
-use Prim.Native.Nat.{ℕ, ◌+◌, ◌*◌, ◌-◌, ◌<◌, ◌≤◌}
-use native.Mathlib.Omega.{arith}
+use Prim.Native.Nat.{ℕ, ◌+◌, ◌*◌, ◌-◌, ◌≤◌}
 use lib.ListN.{length}
-use borrow.Author.Tests.{not-true, not-false}
 use Rattle.glob.specs.Labels.{labels_of}
-use Rattle.glob.specs.Fit.{after_some, fit, fits_label, fit_labels}
-use Rattle.glob.specs.Inner.{Says, Begun, Cut, OffLabels, SharedLabels}
-use Rattle.glob.specs.declared.fit.Trial.TheVariants.{Fits, Never}
-use Rattle.glob.proofs.Parts.{front, back, back_all}
-use Rattle.glob.proofs.Skips.{through}
-use Rattle.glob.proofs.Trials.{Tried, tried_none, some_none, now_some, never_twice}
-use Rattle.glob.proofs.Cuts.{no_labels, labels_end_law, some_labels, cut_law, cut_falls, deep_law, one_law, tried_place, first_cut, first_not}
-use Rattle.glob.proofs.Shared.{shared_falls}
+use Rattle.glob.specs.Fit.{fit_labels}
+use Rattle.glob.specs.Inner.{Begun}
+use Rattle.glob.proofs.Parts.{back}
+use Rattle.glob.proofs.Trials.{Tried}
 use Rattle.glob.proofs.fit.+descend_labels.Given as goal
 
 -- `**` has taken the labels that begin before b

@@ -1,7 +1,7 @@
 -- `glob::fit::equal_labels` meets its contract. The invariant: the labels up to n are shared, and those that begin there are alike up to i.
 use mathlib.Core.Path.{◌≡◌, sym, subst, ◌∙◌}
 use mathlib.Core.Logic.{⊎_elim}
-use Prim.Native.Nat.{ℕ, ◌+◌, ◌-◌, ◌<◌, ◌≤◌}
+use Prim.Native.Nat.{ℕ, ◌+◌, ◌<◌, ◌≤◌}
 use native.Mathlib.Omega.{arith}
 use lib.ListN.{length}
 use Rattle.buffer.proofs.Tests.{same?}
@@ -42,10 +42,10 @@ loop-i-preserved c =
     let run = (c.loop-i.invariant.2 (λ z. omega (arith, m))).1 in
     let Again : ℕ → Type 0 = λ k. (i + 1 ≤ length p) × SharedLabels p s k × ((length s ≡ 0 → ⊥) → (i + 1 ≤ length s) × Run p s k (i + 1)) in
     elim c.if-pattern-i-eq-SLASH.branch [
-      then-pattern-i-eq-SLASH w ↦ let z = w.if-pattern-i-eq-SLASH.true in subst Again (sym w.n-is)
-      (omega (arith, l), shared_on p s c.loop-i.n i run c.loop-i.invariant.0 (omega (arith, m)) (begun_at p i l z) (begun_at s i m (sym e ∙ z)) c.loop-i.invariant.1, λ g. (omega (arith, m), run_next p s i l m e z))
-    | else-pattern-i-eq-SLASH w ↦ subst Again (sym w.n-is)
-      (omega (arith, l), c.loop-i.invariant.1, λ g. (omega (arith, m), run_on p s i l m e c.loop-i.n c.if-pattern-i-eq-STAR.false w.if-pattern-i-eq-SLASH.false run))
+      | then-pattern-i-eq-SLASH w ↦ let z = w.if-pattern-i-eq-SLASH.true in subst Again (sym w.n-is)
+          (omega (arith, l), shared_on p s c.loop-i.n i run c.loop-i.invariant.0 (omega (arith, m)) (begun_at p i l z) (begun_at s i m (sym e ∙ z)) c.loop-i.invariant.1, λ g. (omega (arith, m), run_next p s i l m e z))
+      | else-pattern-i-eq-SLASH w ↦ subst Again (sym w.n-is)
+          (omega (arith, l), c.loop-i.invariant.1, λ g. (omega (arith, m), run_on p s i l m e c.loop-i.n c.if-pattern-i-eq-STAR.false w.if-pattern-i-eq-SLASH.false run))
     ]
 
 -- the pattern has ended

@@ -1,9 +1,5 @@
 -- `glob::split::label_count` meets its contract. The invariant: the labels counted, and those from here on, are all labels.
-use mathlib.Core.Path.{◌≡◌}
-use Prim.Native.Nat.{◌+◌, ◌-◌, ◌≤◌}
 use native.Mathlib.Omega.{arith}
-use lib.ListN.{length, drop}
-use Rattle.glob.specs.Labels.{labels_of}
 use Rattle.glob.proofs.Cuts.{count_here, count_on, count_end}
 use Rattle.glob.proofs.split.label_count.Goals as goal
 use Rattle.glob.proofs.split.label_count.Goals.{then-s-i-eq-SLASH, else-s-i-eq-SLASH}
@@ -13,8 +9,8 @@ loop-i-preserved c =
     let s = c.args.s.now in
     let l = c.loop-i-test.true in
     elim c.if-s-i-eq-SLASH.branch [
-      then-s-i-eq-SLASH w ↦ let e = count_here s c.loop-i.i l w.if-s-i-eq-SLASH.true in omega arith
-    | else-s-i-eq-SLASH w ↦ let e = count_on s c.loop-i.i l w.if-s-i-eq-SLASH.false in omega arith
+      | then-s-i-eq-SLASH w ↦ let e = count_here s c.loop-i.i l w.if-s-i-eq-SLASH.true in omega arith
+      | else-s-i-eq-SLASH w ↦ let e = count_on s c.loop-i.i l w.if-s-i-eq-SLASH.false in omega arith
     ]
 
 pub returns : goal.returns
