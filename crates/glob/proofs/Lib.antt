@@ -5,3 +5,4 @@ pub mod Trials
 pub mod Cuts
 mod Begins
 mod Shared
+pub mod Worked

@@ -1,8 +1,7 @@
 -- What it is to fit a pattern (Definition 3). One definition, `fit`, serves twice: for the bytes of a label, with `*`, and for the labels of a path, with `**`.
--- Assumes nothing: these are definitions, and some worked cases.
-use Rattle.std.specs.Prelude.{ℕ, ◌≡◌, refl, List, [], ◌∷◌, map, Bool, true, false, cond, ◌&&◌, ◌||◌, eqb}
+-- Assumes nothing: these are definitions. Worked cases are in proofs/Worked.antt.
+use Rattle.std.specs.Prelude.{List, [], ◌∷◌, Bool, false, cond, ◌&&◌, ◌||◌, eqb, ℕ}
 use Rattle.buffer.specs.Lists.{none}
-use Rattle.buffer.specs.Text.{text}
 use Rattle.glob.specs.Bytes.{star}
 use Rattle.glob.specs.Labels.{labels_of, deep}
 
@@ -32,12 +31,3 @@ fit_labels = fit deep fits_label
 -- a path fits a pattern, by its labels
 abbrev pub fits_path : List ℕ → List ℕ → Bool
 fits_path pattern path = fit_labels (labels_of pattern) (labels_of path)
-
--- worked: a `*` takes zero or more bytes inside one label, and so no `/`, also behind `**`. The cases that document 01 numbers are in crate matcher.
-pub worked_star : map (fits_path (text "/a*")) (text "/a" ∷ text "/ab" ∷ text "/a/b" ∷ []) ≡ true ∷ true ∷ false ∷ []
-unfolding fit
-worked_star = refl
-
-pub worked_deep : map (fits_path (text "/**/a*c")) (text "/ac" ∷ text "/north/abc" ∷ text "/north/a/c" ∷ []) ≡ true ∷ true ∷ false ∷ []
-unfolding fit
-worked_deep = refl

@@ -11,7 +11,7 @@ returns-then-pattern-lt4 c = λ e. not_both e refl
 
 pub returns-then-pattern-eq-SLASH : goal.returns-then-pattern-eq-SLASH
 returns-then-pattern-eq-SLASH c =
- λ e ks.
+    λ e ks.
     deep_first c.args.pattern.now (omega arith) (eqb-true _ _ e) c.if-pattern-eq-STAR.true c.if-pattern-eq-STAR-2.true c.if-pattern-eq-SLASH.true ks
 
 pub returns-else-pattern-eq-SLASH : goal.returns-else-pattern-eq-SLASH

@@ -1,8 +1,5 @@
 -- `glob::fit::alike` meets its contract. The invariant is the contract, of the bytes passed over so far.
-use Prim.Native.Nat.{◌-◌}
 use native.Mathlib.Omega.{arith}
-use lib.ListN.{length}
-use Rattle.glob.specs.Inner.{Alike}
 use Rattle.glob.proofs.Trials.{alike_none, alike_on}
 use Rattle.glob.proofs.fit.alike.Goals as goal
 

@@ -1,7 +1,7 @@
 -- `glob::fit::equal_labels` meets its contract. The invariant: the labels up to n are shared, and those that begin there are alike up to i.
 use mathlib.Core.Path.{◌≡◌, sym, subst, ◌∙◌}
 use mathlib.Core.Logic.{⊎_elim}
-use Prim.Native.Nat.{ℕ, ◌+◌, ◌-◌, ◌<◌, ◌≤◌}
+use Prim.Native.Nat.{ℕ, ◌+◌, ◌<◌, ◌≤◌}
 use native.Mathlib.Omega.{arith}
 use lib.ListN.{length}
 use Rattle.buffer.proofs.Tests.{same?}
@@ -9,6 +9,7 @@ use Rattle.glob.specs.Inner.{SharedLabels}
 use Rattle.glob.proofs.Cuts.{begun_at, begun_end}
 use Rattle.glob.proofs.Shared.{Run, run_first, run_on, run_next, shared_none, shared_on, shared_unlike, shared_longer, alike_shared, alike_off}
 use Rattle.glob.proofs.fit.equal_labels.Goals as goal
+use Rattle.glob.proofs.fit.equal_labels.Goals.{then-pattern-i-eq-SLASH, else-pattern-i-eq-SLASH}
 
 pub loop-i-init : goal.loop-i-init
 loop-i-init c =
@@ -40,11 +41,12 @@ loop-i-preserved c =
     let e = c.if-pattern-i.false in
     let run = (c.loop-i.invariant.2 (λ z. omega (arith, m))).1 in
     let Again : ℕ → Type 0 = λ k. (i + 1 ≤ length p) × SharedLabels p s k × ((length s ≡ 0 → ⊥) → (i + 1 ≤ length s) × Run p s k (i + 1)) in
-    ⊎_elim
-    (λ w. let z = w.0.taken in subst Again (sym w.1)
-    (omega (arith, l), shared_on p s c.loop-i.n i run c.loop-i.invariant.0 (omega (arith, m)) (begun_at p i l z) (begun_at s i m (sym e ∙ z)) c.loop-i.invariant.1, λ g. (omega (arith, m), run_next p s i l m e z)))
-    (λ w. subst Again (sym w.1) (omega (arith, l), c.loop-i.invariant.1, λ g. (omega (arith, m), run_on p s i l m e c.loop-i.n c.if-pattern-i-eq-STAR.false w.0.left run)))
-    c.if-pattern-i-eq-SLASH.branch
+    elim c.if-pattern-i-eq-SLASH.branch [
+      | then-pattern-i-eq-SLASH w ↦ let z = w.if-pattern-i-eq-SLASH.true in subst Again (sym w.n-is)
+          (omega (arith, l), shared_on p s c.loop-i.n i run c.loop-i.invariant.0 (omega (arith, m)) (begun_at p i l z) (begun_at s i m (sym e ∙ z)) c.loop-i.invariant.1, λ g. (omega (arith, m), run_next p s i l m e z))
+      | else-pattern-i-eq-SLASH w ↦ subst Again (sym w.n-is)
+          (omega (arith, l), c.loop-i.invariant.1, λ g. (omega (arith, m), run_on p s i l m e c.loop-i.n c.if-pattern-i-eq-STAR.false w.if-pattern-i-eq-SLASH.false run))
+    ]
 
 -- the pattern has ended
 pub returns : goal.returns

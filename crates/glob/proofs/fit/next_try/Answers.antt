@@ -1,8 +1,8 @@
 -- `glob::fit::next_try` meets its contract. The invariant is the contract, of the places passed over so far.
-use Prim.Native.Nat.{◌+◌, ◌-◌}
+use Prim.Native.Nat.{◌+◌}
 use native.Mathlib.Omega.{arith}
 use lib.ListN.{length}
-use Rattle.glob.specs.Inner.{Skipped, OffLabel}
+use Rattle.glob.specs.Inner.{OffLabel}
 use Rattle.glob.proofs.Skips.{skip_none, skip_on, skip_to}
 use Rattle.glob.proofs.Trials.{off_here, off_end}
 use Rattle.glob.proofs.fit.next_try.Goals as goal

@@ -1,10 +1,7 @@
 -- `glob::fit::next_try` meets its contract. The invariant is the contract, of the places passed over so far.
-use Prim.Native.Nat.{◌+◌, ◌-◌}
-use native.Mathlib.Omega.{arith}
+use Prim.Native.Nat.{◌-◌}
 use lib.ListN.{length}
 use Rattle.glob.specs.Inner.{Skipped, OffLabel}
-use Rattle.glob.proofs.Skips.{skip_none, skip_on, skip_to}
-use Rattle.glob.proofs.Trials.{off_here, off_end}
 use Rattle.glob.proofs.fit.next_try.Given as goal
 
 abbrev pub invariant-loop-i : goal.invariant-loop-i

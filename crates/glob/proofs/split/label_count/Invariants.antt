@@ -1,11 +1,8 @@
 -- `glob::split::label_count` meets its contract. The invariant: the labels counted, and those from here on, are all labels.
 use mathlib.Core.Path.{◌≡◌}
-use mathlib.Core.Logic.{⊎_elim}
 use Prim.Native.Nat.{◌+◌, ◌-◌, ◌≤◌}
-use native.Mathlib.Omega.{arith}
 use lib.ListN.{length, drop}
 use Rattle.glob.specs.Labels.{labels_of}
-use Rattle.glob.proofs.Cuts.{count_here, count_on, count_end}
 use Rattle.glob.proofs.split.label_count.Given as goal
 
 abbrev pub invariant-loop-i : goal.invariant-loop-i

@@ -1,12 +1,8 @@
 -- `glob::split::last_label` meets its contract. The invariant: what is passed has no `/`, so the first `/` from here on is at the end.
-use mathlib.Core.Path.{◌≡◌, ap, ◌∙◌}
-use mathlib.Core.List.{List}
-use Prim.Native.Nat.{ℕ, suc, ◌+◌, ◌-◌, ◌<◌}
-use native.Mathlib.Omega.{arith}
-use lib.ListN.{length, drop, get_or}
-use Rattle.glob.specs.Bytes.{slash}
+use mathlib.Core.Path.{◌≡◌}
+use Prim.Native.Nat.{◌+◌}
+use lib.ListN.{length, drop}
 use Rattle.glob.specs.Labels.{up_to_slash}
-use Rattle.glob.proofs.Cuts.{up_more, up_end}
 use Rattle.glob.proofs.split.last_label.Given as goal
 
 abbrev pub invariant-loop-i : goal.invariant-loop-i

@@ -1,9 +1,5 @@
 -- `glob::split::next_slash` meets its contract. The invariant: what is passed has no `/`, so what stands up to the first `/` from here, and the bytes passed, are what stands up to it from the start.
-use mathlib.Core.Path.{◌≡◌}
-use Prim.Native.Nat.{◌+◌, ◌-◌, ◌≤◌}
 use native.Mathlib.Omega.{arith}
-use lib.ListN.{length, drop}
-use Rattle.glob.specs.Labels.{up_to_slash}
 use Rattle.glob.proofs.Cuts.{up_stop, up_more, up_end}
 use Rattle.glob.proofs.split.next_slash.Goals as goal
 

@@ -1,10 +1,8 @@
 -- `glob_prefix::prefix::differs` meets its contract. The invariant: what is passed is alike.
 use mathlib.Core.Path.{refl, sym, ◌∙◌}
-use Prim.Native.Nat.{◌-◌}
 use native.Mathlib.Omega.{arith}
-use lib.ListN.{length}
 use borrow.Author.Tests.{eq-eqb, ne_eqb}
-use Rattle.glob_prefix.proofs.Leading.{Undecided, differs_on, differs_end, differs_short}
+use Rattle.glob_prefix.proofs.Leading.{differs_on, differs_end, differs_short}
 use Rattle.glob_prefix.proofs.prefix.differs.Goals as goal
 
 pub loop-i-init : goal.loop-i-init

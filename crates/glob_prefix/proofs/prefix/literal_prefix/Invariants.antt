@@ -1,9 +1,7 @@
 -- `glob_prefix::prefix::literal_prefix` meets its contract: label by label, `Led`.
-use mathlib.Core.Path.{sym, ◌∙◌}
 use Prim.Native.Nat.{◌-◌}
-use native.Mathlib.Omega.{arith}
 use lib.ListN.{length}
-use Rattle.glob_prefix.proofs.Leading.{Led, led_none, led_prefix, no_prefix, stop_inside, led_on}
+use Rattle.glob_prefix.proofs.Leading.{Led}
 use Rattle.glob_prefix.proofs.prefix.literal_prefix.Given as goal
 
 abbrev pub invariant-loop-a : goal.invariant-loop-a

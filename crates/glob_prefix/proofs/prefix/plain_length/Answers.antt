@@ -1,7 +1,4 @@
 -- `glob_prefix::prefix::plain_length` meets its contract. The invariant is the contract, of the bytes passed so far.
-use Prim.Native.Nat.{◌-◌}
-use lib.ListN.{length}
-use Rattle.glob_prefix.specs.Prefix.{Plain}
 use Rattle.glob_prefix.proofs.Leading.{plain_none, plain_on}
 use Rattle.glob_prefix.proofs.prefix.plain_length.Goals as goal
 

@@ -2,7 +2,6 @@
 use Prim.Native.Nat.{◌-◌}
 use lib.ListN.{length}
 use Rattle.glob_prefix.specs.Prefix.{Plain}
-use Rattle.glob_prefix.proofs.Leading.{plain_none, plain_on}
 use Rattle.glob_prefix.proofs.prefix.plain_length.Given as goal
 
 abbrev pub invariant-loop-i : goal.invariant-loop-i

@@ -1,13 +1,9 @@
 -- `matcher::form::are_pattern_labels` meets its contract. The invariant: a label begins here, and what holds of the labels from here on is what holds of all.
-use borrow.Author.Rules.{rules}
-use mathlib.Core.Path.{◌≡◌, refl, sym, ap, subst, ◌∙◌}
-use Prim.Native.Nat.{◌+◌, ◌-◌, ◌≤◌}
-use lib.ListN.{length, drop, drop_of_length-le}
-use borrow.Author.Tests.{not-true, not-false}
+use mathlib.Core.Path.{◌≡◌}
+use Prim.Native.Nat.{◌-◌, ◌≤◌}
+use lib.ListN.{length, drop}
 use Rattle.buffer.specs.Lists.{all}
 use Rattle.glob.specs.Inner.{Begun}
-use Rattle.glob.proofs.Parts.{tail_part}
-use Rattle.glob.proofs.Cuts.{begun_next, label_at}
 use Rattle.matcher.specs.Labels.{labels_of}
 use Rattle.matcher.specs.Form.{pattern_label}
 use Rattle.matcher.proofs.form.are_pattern_labels.Given as goal

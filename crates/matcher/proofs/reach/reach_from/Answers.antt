@@ -10,13 +10,13 @@ use Rattle.matcher.proofs.reach.reach_from.Goals as goal
 
 pub returns-then-differs : goal.returns-then-differs
 returns-then-differs c =
- λ P h f.
+    λ P h f.
     let a = c.args in
     sym (ruled_out a.pattern.now [] a.known.now a.literal h (omega arith) (sym c.differs.ensures ∙ c.if-differs.true))
 
 pub returns-then-literal-pattern : goal.returns-then-literal-pattern
 returns-then-literal-pattern c =
- λ P h f.
+    λ P h f.
     let a = c.args in
     let all : a.literal - 0 ≡ a.literal = omega arith in
     compared a.pattern.now a.literal P h a.known.now c.if-known-literal.true (rw all at (sym c.differs.ensures ∙ c.if-differs.false))

@@ -1,10 +1,9 @@
 -- `matcher::runs::are_apart` meets its contract. The invariant: what holds from here on is what holds of the whole.
 use borrow.Author.Rules.{rules}
 use mathlib.Core.Path.{◌≡◌, sym, ◌∙◌}
-use Prim.Native.Nat.{◌-◌, ◌≤◌}
+use Prim.Native.Nat.{◌-◌}
 use native.Mathlib.Omega.{arith}
 use lib.ListN.{length, drop}
-use borrow.Author.Tests.{not-true, not-false}
 use Rattle.matcher.specs.Form.{apart}
 use Rattle.matcher.proofs.Apart.{apart_past, apart_stop, apart_on, apart_end}
 use Rattle.matcher.proofs.runs.are_apart.Goals.{After-label_end-end}
@@ -19,12 +18,12 @@ past c =
 pub returns-then-not-may_stand : goal.returns-then-not-may_stand
 returns-then-not-may_stand c =
     let a = c.args in
-    sym (past (goal.at.returns-then-not-may_stand c).After-label_end-end ∙ apart_stop a.mark a.s.now c.label_end-end.result (omega arith) (sym c.may_stand.ensures ∙ not-true _ c.if-not-may_stand.true-raw))
+    sym (past (goal.at.returns-then-not-may_stand c).After-label_end-end ∙ apart_stop a.mark a.s.now c.label_end-end.result (omega arith) (sym c.may_stand.ensures ∙ c.if-not-may_stand.true))
 
 pub loop-i-preserved : goal.loop-i-preserved
 loop-i-preserved c =
     let a = c.args in
-    (search rules, past (goal.at.loop-i-preserved c).After-label_end-end ∙ apart_on a.mark a.s.now c.label_end-end.result (omega arith) (sym c.may_stand.ensures ∙ not-false _ c.if-not-may_stand.false-raw))
+    (search rules, past (goal.at.loop-i-preserved c).After-label_end-end ∙ apart_on a.mark a.s.now c.label_end-end.result (omega arith) (sym c.may_stand.ensures ∙ c.if-not-may_stand.false))
 
 pub returns : goal.returns
 returns c =

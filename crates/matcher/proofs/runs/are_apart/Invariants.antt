@@ -1,12 +1,8 @@
 -- `matcher::runs::are_apart` meets its contract. The invariant: what holds from here on is what holds of the whole.
-use borrow.Author.Rules.{rules}
-use mathlib.Core.Path.{◌≡◌, sym, ◌∙◌}
+use mathlib.Core.Path.{◌≡◌}
 use Prim.Native.Nat.{◌-◌, ◌≤◌}
-use native.Mathlib.Omega.{arith}
 use lib.ListN.{length, drop}
-use borrow.Author.Tests.{not-true, not-false}
 use Rattle.matcher.specs.Form.{apart}
-use Rattle.matcher.proofs.Apart.{apart_past, apart_stop, apart_on, apart_end}
 use Rattle.matcher.proofs.runs.are_apart.Given as goal
 
 abbrev pub invariant-loop-i : goal.invariant-loop-i
