@@ -1,11 +1,8 @@
 -- After i turns i zeros are laid over.
-use native.Mathlib.Omega.{arith}
 use Prim.Native.Nat.{◌≤◌, ◌-◌}
-use mathlib.Core.Path.{◌≡◌, refl, sym}
-use lib.ListN.{length, replicate, length-set, length-replicate, replicate-append-replicate}
+use mathlib.Core.Path.{◌≡◌}
+use lib.ListN.{length, replicate}
 use Rattle.buffer.specs.Splice.{splice}
-use Rattle.buffer.proofs.Splice.{splice_nil}
-use Rattle.buffer.proofs.Turns.{grow}
 use Rattle.buffer.proofs.moves.clear.Given as goal
 
 abbrev pub invariant-loop-i : goal.invariant-loop-i

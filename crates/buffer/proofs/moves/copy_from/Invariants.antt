@@ -1,13 +1,8 @@
 -- After i turns the first i bytes of `src` are laid over.
-use native.Mathlib.Omega.{arith}
-use native.Mathlib.Numerals.{add-one}
-use Prim.Native.Nat.{◌≤◌, ◌<◌, ◌-◌}
-use mathlib.Core.Path.{◌≡◌, refl, sym, ◌∙◌}
-use lib.ListN.{length, take, length-set}
-use lib.Seq.{take-suc, take_all, length-take-le}
+use Prim.Native.Nat.{◌≤◌, ◌-◌}
+use mathlib.Core.Path.{◌≡◌}
+use lib.ListN.{length, take}
 use Rattle.buffer.specs.Splice.{splice}
-use Rattle.buffer.proofs.Splice.{splice_nil}
-use Rattle.buffer.proofs.Turns.{grow}
 use Rattle.buffer.proofs.moves.copy_from.Given as goal
 
 abbrev pub invariant-loop-i : goal.invariant-loop-i

@@ -1,9 +1,7 @@
 -- After i turns the first i bytes have moved; what is still to be read stands behind them.
 use native.Mathlib.Omega.{arith}
-use Prim.Native.Nat.{◌≤◌, ◌-◌}
 use mathlib.Core.Path.{◌≡◌, refl, sym}
-use lib.ListN.{length, length-set}
-use Rattle.buffer.specs.Splice.{splice, region}
+use lib.ListN.{length-set}
 use Rattle.buffer.proofs.Splice.{splice_nil}
 use Rattle.buffer.proofs.Turns.{down_turn}
 use Rattle.buffer.proofs.moves.move_down.Goals as goal

@@ -1,11 +1,8 @@
 -- After i turns the first i bytes have moved; what is still to be read stands behind them.
-use native.Mathlib.Omega.{arith}
 use Prim.Native.Nat.{◌≤◌, ◌-◌}
-use mathlib.Core.Path.{◌≡◌, refl, sym}
-use lib.ListN.{length, length-set}
+use mathlib.Core.Path.{◌≡◌}
+use lib.ListN.{length}
 use Rattle.buffer.specs.Splice.{splice, region}
-use Rattle.buffer.proofs.Splice.{splice_nil}
-use Rattle.buffer.proofs.Turns.{down_turn}
 use Rattle.buffer.proofs.moves.move_down.Given as goal
 
 abbrev pub invariant-loop-i : goal.invariant-loop-i

@@ -1,12 +1,8 @@
 -- With i bytes to go those behind them have moved, whole blocks of them; the bytes that fill no block come last.
-use native.Mathlib.Omega.{arith}
-use native.Mathlib.Nat.{add-zero, sub-zero, sub_self}
 use Prim.Native.Nat.{◌+◌, ◌≤◌, ◌-◌}
-use mathlib.Core.Path.{◌≡◌, refl, sym, ◌∙◌}
+use mathlib.Core.Path.{◌≡◌}
 use lib.ListN.{length}
 use Rattle.buffer.specs.Splice.{splice, region}
-use Rattle.buffer.proofs.Splice.{splice_nil}
-use Rattle.buffer.proofs.Turns.{up_turn}
 use Rattle.buffer.proofs.moves.move_up.Given as goal
 
 abbrev pub invariant-loop-i : goal.invariant-loop-i

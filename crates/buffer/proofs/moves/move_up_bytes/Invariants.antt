@@ -1,12 +1,8 @@
 -- With i bytes to go those behind them have moved; what is still to be read stands before them.
-use native.Mathlib.Omega.{arith}
-use native.Mathlib.Nat.{add-zero, sub-zero, sub_self}
 use Prim.Native.Nat.{◌+◌, ◌≤◌, ◌-◌}
-use mathlib.Core.Path.{◌≡◌, refl, sym, ◌∙◌}
-use lib.ListN.{length, length-set}
+use mathlib.Core.Path.{◌≡◌}
+use lib.ListN.{length}
 use Rattle.buffer.specs.Splice.{splice, region}
-use Rattle.buffer.proofs.Splice.{splice_nil, set_region}
-use Rattle.buffer.proofs.Turns.{up_turn}
 use Rattle.buffer.proofs.moves.move_up_bytes.Given as goal
 
 abbrev pub invariant-loop-i : goal.invariant-loop-i
