@@ -11,7 +11,6 @@ use Rattle.rows.specs.Order.{entry_order}
 use Rattle.rows.specs.Sorted.{sorted}
 use Rattle.entries.specs.Query.{Query}
 use Rattle.book.specs.Book.{Book, Sound, front}
-use Rattle.book.specs.Digits.{level}
 use Rattle.book.specs.Tries.{tries}
 use Rattle.book.specs.Searching.{nodes}
 use Rattle.book.specs.Records.{record_of, level_read, records}

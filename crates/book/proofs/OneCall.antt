@@ -16,8 +16,8 @@ use Rattle.rows.specs.Entry.{Entry}
 use Rattle.entries.specs.Query.{Query}
 use Rattle.book.specs.Front.{front_size, front_bytes, front_of, need, no_store}
 use Rattle.book.specs.Book.{Book, Sound, front}
-use Rattle.book.specs.Replies.{Reply, reply, Result, result, setup_number}
-use Rattle.book.specs.Calls.{Call, setup, add, search, read_level, typed}
+use Rattle.book.specs.Replies.{Reply, Result, result, setup_number}
+use Rattle.book.specs.Calls.{Call, setup, add, search, read_level}
 use Rattle.book.specs.Step.{step}
 use Rattle.book.specs.Image.{image, HoldsBook}
 use Rattle.book.specs.Ran.{Did}

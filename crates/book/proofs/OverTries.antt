@@ -20,7 +20,7 @@ use Rattle.trie_theory.specs.Forest.{Key, Forest, keys}
 use Rattle.trie_theory.specs.Dimensions.{root}
 use Rattle.trie_theory.specs.Lookup.{same_key, among, member}
 use Rattle.trie_theory.proofs.Lookup.{same_key_true}
-use Rattle.trie_theory.specs.Search.{found, nodes_in, admitted, nodes_entered}
+use Rattle.trie_theory.specs.Search.{nodes_in, admitted, nodes_entered}
 use Rattle.trie_theory.specs.TrieOf.{TrieOf}
 use Rattle.trie_theory.specs.Entries as Dimensions
 use Rattle.trie_theory.specs.Sound as Trie

@@ -24,7 +24,7 @@ use Rattle.trie_theory.proofs.SoundLaws.{root_single}
 use Rattle.trie_theory.proofs.Encode.{sound_regular, node_parts, encode_injective}
 use Rattle.rows.specs.Entry.{Entry}
 use Rattle.book.specs.Front.{Front, entry_room}
-use Rattle.book.specs.Book.{Book, Sound, front}
+use Rattle.book.specs.Book.{Book, front}
 use Rattle.book.specs.Tries.{every, tries}
 use Rattle.book.specs.Image.{padded, HoldsBook}
 use Rattle.book.proofs.Image.{image_fits}
