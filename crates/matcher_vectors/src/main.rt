@@ -3,7 +3,7 @@
 // answers of a second program. A line that begins with `#` is a comment.
 #![tactic(auto)]
 
-ghost use Rattle.std.specs.Prelude.{◌≤◌, ◌<◌, length};
+ghost use Rattle.std.specs.Prelude.{◌≡◌, ◌≤◌, ◌<◌, length, take};
 
 use console::Console;
 use matcher::reach::Answer;
@@ -35,7 +35,7 @@ fn digit(b: u8) -> u8
 
 // The bytes of a text of two digits for each; one digit left over, as `-`, is no byte.
 fn decode(text: &[u8], out: &mut [u8]) -> usize
-    ensures { result ≤ length out.new }
+    ensures { (result ≤ length out.new) × (result ≡ length (take result out.new)) }
 {
     let pairs = text.len() / 2;
     let mut n: usize = 0;

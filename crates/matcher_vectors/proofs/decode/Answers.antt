@@ -1,9 +1,8 @@
 -- `matcher_vectors::decode` meets its contract.
 use borrow.Author.Rules.{rules}
-use mathlib.Core.Path.{◌≡◌, sym}
-use Prim.Native.Nat.{◌≤◌, ◌-◌, ◌*◌}
+use mathlib.Core.Path.{sym}
 use native.Mathlib.Omega.{arith}
-use lib.ListN.{length, length-set}
+use lib.ListN.{length-set}
 use lib.Seq.{length-take-le}
 use Rattle.matcher_vectors.proofs.decode.Goals as goal
 

@@ -1,10 +1,7 @@
 -- `matcher_vectors::decode` meets its contract.
-use borrow.Author.Rules.{rules}
-use mathlib.Core.Path.{◌≡◌, sym}
+use mathlib.Core.Path.{◌≡◌}
 use Prim.Native.Nat.{◌≤◌, ◌-◌, ◌*◌}
-use native.Mathlib.Omega.{arith}
-use lib.ListN.{length, length-set}
-use lib.Seq.{length-take-le}
+use lib.ListN.{length}
 use Rattle.matcher_vectors.proofs.decode.Given as goal
 
 abbrev pub invariant-loop-n : goal.invariant-loop-n
