@@ -1,8 +1,7 @@
 -- `matcher::form::check_pattern` meets its contract: length first, then the number of labels, then form. A formed pattern of few bytes has few labels.
-use mathlib.Core.Path.{sym, ap, ◌∙◌}
+use mathlib.Core.Path.{sym, ◌∙◌}
 use native.Mathlib.Omega.{arith}
 use lib.ListN.{length}
-use lib.Dec.{ltb}
 use borrow.Author.Tests.{lt-ltb, le-ltb}
 use Rattle.matcher.specs.Bytes.{pattern_label_limit}
 use Rattle.matcher.specs.Labels.{labels_of}
@@ -23,12 +22,12 @@ returns-then-pattern-le-PATTERN_LABEL_LIMIT c =
 
 pub returns-then-label_count-gt-PATTERN_LABEL_LIMIT : goal.returns-then-label_count-gt-PATTERN_LABEL_LIMIT
 unfolding pattern_form
-returns-then-label_count-gt-PATTERN_LABEL_LIMIT c = rw (le-ltb _ _ c.if-pattern-gt-PATH_LIMIT.false, ap (ltb pattern_label_limit) (sym c.label_count.ensures) ∙ lt-ltb _ _ c.if-label_count-gt-PATTERN_LABEL_LIMIT.true)
+returns-then-label_count-gt-PATTERN_LABEL_LIMIT c = rw (le-ltb _ _ c.if-pattern-gt-PATH_LIMIT.false, lt-ltb pattern_label_limit (length (labels_of c.args.pattern.now)) (omega arith))
 
 pub returns-then-formed-2 : goal.returns-then-formed-2
 unfolding pattern_form
-returns-then-formed-2 c = rw (le-ltb _ _ c.if-pattern-gt-PATH_LIMIT.false, ap (ltb pattern_label_limit) (sym c.label_count.ensures) ∙ le-ltb _ _ c.if-label_count-gt-PATTERN_LABEL_LIMIT.false, sym c.is_pattern-formed.ensures ∙ c.if-formed-2.true)
+returns-then-formed-2 c = rw (le-ltb _ _ c.if-pattern-gt-PATH_LIMIT.false, le-ltb pattern_label_limit (length (labels_of c.args.pattern.now)) (omega arith), sym c.is_pattern-formed.ensures ∙ c.if-formed-2.true)
 
 pub returns : goal.returns
 unfolding pattern_form
-returns c = rw (le-ltb _ _ c.if-pattern-gt-PATH_LIMIT.false, ap (ltb pattern_label_limit) (sym c.label_count.ensures) ∙ le-ltb _ _ c.if-label_count-gt-PATTERN_LABEL_LIMIT.false, sym c.is_pattern-formed.ensures ∙ c.if-formed-2.false)
+returns c = rw (le-ltb _ _ c.if-pattern-gt-PATH_LIMIT.false, le-ltb pattern_label_limit (length (labels_of c.args.pattern.now)) (omega arith), sym c.is_pattern-formed.ensures ∙ c.if-formed-2.false)

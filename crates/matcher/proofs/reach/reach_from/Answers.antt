@@ -19,7 +19,7 @@ returns-then-literal-pattern c =
     λ P h f.
     let a = c.args in
     let all : a.literal - 0 ≡ a.literal = omega arith in
-    compared a.pattern.now a.literal P h a.known.now c.if-known-literal.true (rw all at (sym c.differs.ensures ∙ c.if-differs.false))
+    compared a.pattern.now a.literal P h a.known.now (omega arith) (rw all at (sym c.differs.ensures ∙ c.if-differs.false))
 
 pub returns : goal.returns
 returns c = λ P h f. c.reach_labels.ensures ∙ reach_labels_lem c.args.pattern.now c.args.known.now P (first_tested _ f)

@@ -1,9 +1,8 @@
 -- One byte more in each turn.
 use native.Mathlib.Omega.{arith}
-use Prim.Native.Nat.{ℕ, ◌-◌, ◌^◌, ◌≤◌, ◌<◌}
+use Prim.Native.Nat.{ℕ, ◌^◌, ◌<◌}
 use mathlib.Core.Path.{◌≡◌, sym, subst, ◌∙◌}
-use lib.ListN.{length, take}
-use Rattle.buffer.specs.Numbers.{number}
+use lib.ListN.{length}
 use Rattle.value_range.proofs.Ranges.{number_none, number_more, number_room, number_fits, number_all}
 use Rattle.value_range.proofs.value.number_of.Goals as goal
 

@@ -7,7 +7,7 @@ use Rattle.value_range.proofs.Ranges.{out_long, spans_first}
 use Rattle.value_range.proofs.value.value_reach.Goals as goal
 
 pub returns-then-known-gt-VALUE_SIZE : goal.returns-then-known-gt-VALUE_SIZE
-returns-then-known-gt-VALUE_SIZE c = λ p. out_long p _ _ _ c.if-known-gt-VALUE_SIZE.true
+returns-then-known-gt-VALUE_SIZE c = λ p. out_long p _ _ _ (omega arith)
 
 pub returns : goal.returns
 returns c =
