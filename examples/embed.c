@@ -1,6 +1,6 @@
 /* A store with three entries, searched. From the repository's root:
  *
- *     rt staticlib nivruska
+ *     bin/staticlib nivruska
  *     cc -std=c99 -Wall -Iinclude -o target/embed examples/embed.c target/staticlib/libnivruska.a
  *
  * target/embed then prints examples/embed.out. */

@@ -1,4 +1,4 @@
-//! Links the proved library, which `rt staticlib nivruska` writes.
+//! Links the proved library, which `bin/staticlib nivruska` writes.
 
 use std::path::Path;
 use std::process::exit;
@@ -8,7 +8,7 @@ fn main() {
     let library = folder.join("libnivruska.a");
     println!("cargo:rerun-if-changed={}", library.display());
     if !library.exists() {
-        eprintln!("{} is missing: run `rt staticlib nivruska` in the root of the repository.", library.display());
+        eprintln!("{} is missing: run `bin/staticlib nivruska` in the root of the repository.", library.display());
         exit(1);
     }
     println!("cargo:rustc-link-search=native={}", folder.display());

@@ -2,7 +2,7 @@
 //!
 //! An [`Entry`] is a path, a value and a reference. A [`Store`] finds entries by a pattern for the path and a range of values. In a pattern
 //! `*` takes zero or more bytes inside one label, and the whole label `**` takes zero or more labels. The index itself is written in Rattle
-//! and proved; this crate links it (`rt staticlib nivruska` builds it) and adds types. It takes no heap and has no dependency.
+//! and proved; this crate links it (`bin/staticlib nivruska` builds it) and adds types. It takes no heap and has no dependency.
 //!
 //! ```
 //! use nivruska::{need, Entry, Refusal, Store, ROW_SIZE};

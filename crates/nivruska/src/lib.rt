@@ -1,4 +1,4 @@
-// The index in lent memory: four calls, and the matcher alone, for Rattle, and for C and Rust with a slice as a pointer and a length. No call asks
+// The index in lent memory: four calls, and the matcher alone; for C and Rust crate `nivruska_c` exports them. No call asks
 // anything of its caller; what each promises is in the book (crates/book/specs/Promises.antt), and what follows for any list of calls is demand 3
 // (crates/book/specs/Demand3.antt).
 #![tactic(auto)]
@@ -19,25 +19,11 @@ pub fn setup(store: &mut [u8], m: u64, l: u64, tau: u64) -> Reply
     store::setup::prepare(store, m, l, tau)
 }
 
-#[unsafe(no_mangle)]
-pub extern "C" fn nivruska_setup(store: &mut [u8], m: u64, l: u64, tau: u64) -> Reply
-    ensures { SetsUp m l tau store.old store.new (said result) }
-{
-    setup(store, m, l, tau)
-}
-
 // Adds an entry.
 pub fn add(store: &mut [u8], path: &[u8], value: u64, reference: &[u8]) -> Reply
     ensures { Adds (entry path.now value reference.now) store.old store.new (said result) }
 {
     store_add::add::add(store, path, value, reference)
-}
-
-#[unsafe(no_mangle)]
-pub extern "C" fn nivruska_add(store: &mut [u8], path: &[u8], value: u64, reference: &[u8]) -> Reply
-    ensures { Adds (entry path.now value reference.now) store.old store.new (said result) }
-{
-    add(store, path, value, reference)
 }
 
 // Lists the rows whose path fits the pattern and whose value is from low to high, in row sequence, into the answer.
@@ -47,19 +33,6 @@ pub fn search(store: &[u8], pattern: &[u8], low: u64, high: u64, answer: &mut [u
     store_search::query::search(store, pattern, low, high, answer)
 }
 
-#[unsafe(no_mangle)]
-pub extern "C" fn nivruska_search(
-    store: &[u8],
-    pattern: &[u8],
-    low: u64,
-    high: u64,
-    answer: &mut [u8],
-) -> Reply
-    ensures { Searches (asked pattern.now low high) store.now answer.old answer.new (said result) }
-{
-    search(store, pattern, low, high, answer)
-}
-
 // Lists the records of a level, in row sequence, into the answer.
 pub fn read_level(store: &[u8], level: u64, answer: &mut [u8]) -> Reply
     ensures { ReadsLevel level store.now answer.old answer.new (said result) }
@@ -67,16 +40,8 @@ pub fn read_level(store: &[u8], level: u64, answer: &mut [u8]) -> Reply
     store_read::level::read_level(store, level, answer)
 }
 
-#[unsafe(no_mangle)]
-pub extern "C" fn nivruska_read_level(store: &[u8], level: u64, answer: &mut [u8]) -> Reply
-    ensures { ReadsLevel level store.now answer.old answer.new (said result) }
-{
-    read_level(store, level, answer)
-}
-
 // Does the path fit the pattern? False where either is not formed.
-#[unsafe(no_mangle)]
-pub extern "C" fn nivruska_fits(pattern: &[u8], path: &[u8]) -> bool
+pub fn fits(pattern: &[u8], path: &[u8]) -> bool
     ensures { result ≡ matches pattern.now path.now }
 {
     matcher::fit::fits(pattern, path)
