@@ -1,3 +1,4 @@
+-- One addition, three functions that call each other: `depth` falls.
 use native.Mathlib.Omega.{arith}
 use mathlib.Core.Path.{◌≡◌, sym, ◌∙◌}
 use lib.ListN.{length}
@@ -7,7 +8,7 @@ use Rattle.trie_read.proofs.Walking.{on_lengths}
 use Rattle.trie_write.proofs.NewLeaf.{length_new_leaf}
 use Rattle.trie_add.proofs.First.{height_some}
 use Rattle.trie_add.proofs.Addition.{inner_grown, visit_agrees, visit_differs, added_node, added_gap}
-use Prim.Native.Nat.{ℕ, ◌+◌, ◌-◌, ◌*◌, ◌≤◌, ◌<◌}
+use Prim.Native.Nat.{ℕ, ◌+◌, ◌-◌, ◌≤◌}
 use Rattle.trie_add.proofs.add.+add_extend_body_visit_node.Goals.{add-Start, visit_node-Then-agrees}
 use Rattle.trie_add.proofs.add.+add_extend_body_visit_node.Goals as goal
 

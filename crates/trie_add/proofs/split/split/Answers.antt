@@ -65,10 +65,13 @@ returns c =
     let lb = length_region s a.body (a.next - a.body) (omega (arith, pre.head_size_bound)) in
     let dv = length-drop x v in
     let dp = length-drop y p in
-    let inserted = rw (part_from v x, part_from p y) at c.insert_leaf.ensures.s_after in record { upper_bound = omega (arith, pre.head_size_bound); replaced = resized
+    let inserted = rw (part_from v x, part_from p y) at c.insert_leaf.ensures.s_after in record {
+      upper_bound = omega (arith, pre.head_size_bound);
+      replaced = resized
           (split_done (above_of a.above) a.kind nv np body v p a.reference.now pre.kind_bound.5 x y cut.in_value cut.in_path
           s _ _ a.at a.body a.next a.used (omega (arith, pre.head_size_bound), omega (arith, pre.head_size_bound), omega (arith, pre.head_size_bound), omega (arith, pre.head_size_bound, cut, dv, dp)) refl (omega (arith, pre.head_size_bound, lv, lp)) cut.node_value cut.node_path
           _ _ _ cut.branches
           (size_is a.at a.body a.next x y (length nv) (length np) (length body) (length v) (length p) _ _ _ _ (split_length nv x cut.node_value) (split_length np y cut.node_path) (split_length v x cut.key_value) (split_length p y cut.key_path) (omega (arith, pre.head_size_bound, lv, lp)) (omega (arith, pre.head_size_bound, lb)))
           (sym lb) c.put_parent.ensures _ _ cut.before c.choose-place.ensures inserted)
-          (omega (arith, pre.head_size_bound, cut, dv, dp)) }
+          (omega (arith, pre.head_size_bound, cut, dv, dp));
+    }
