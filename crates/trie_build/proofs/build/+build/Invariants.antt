@@ -1,20 +1,8 @@
 -- The builder calls itself on each part; the undecided bytes of the set fall.
-use native.Mathlib.Omega.{arith}
-use Prim.Native.Nat.{ℕ, ◌+◌, ◌*◌, ◌-◌, ◌≤◌, ◌<◌}
-use mathlib.Core.Path.{◌≡◌, ◌∙◌}
-use mathlib.Core.List.{List}
-use lib.ListN.{length, drop}
-use Rattle.buffer.specs.Sizes.{four_byte_limit}
-use Rattle.entries.specs.Slots.{slot_size}
-use Rattle.trie_theory.specs.Forest.{Key}
+use Prim.Native.Nat.{◌-◌, ◌≤◌}
+use lib.ListN.{drop}
 use Rattle.trie_theory.proofs.Fall.{undecided}
 use Rattle.trie_sets.specs.Sets.{keys_of}
-use Rattle.trie_theory.specs.Position.{shared}
-use Rattle.trie_theory.specs.Parts.{parts}
-use Rattle.trie_sets.specs.Partition.{Parted}
-use Rattle.trie_build.specs.Steps.{Ready, Opened, column_of, Run}
-use Rattle.trie_build.proofs.Going.{Going}
-use Rattle.trie_build.proofs.Runs.{run_whole}
 use Rattle.trie_build.proofs.Building as law
 use Rattle.trie_build.proofs.build.+build.Given as goal
 
