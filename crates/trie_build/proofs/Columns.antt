@@ -2,7 +2,7 @@
 -- Assumes nothing.
 use mathlib.Core.Path.{◌≡◌, refl, sym, ap, ap₂, ◌∙◌}
 use mathlib.Core.Bool.{Bool, true, false, cond}
-use Prim.Native.Nat.{ℕ, zero, suc, ◌+◌, ◌<◌}
+use Prim.Native.Nat.{ℕ, zero, suc, ◌+◌, ◌≤◌, ◌<◌}
 use mathlib.Core.List.{List, [], ◌∷◌, ◌++◌, map}
 use native.Mathlib.Omega.{arith}
 use native.Mathlib.Nat.{zero-add}
@@ -23,6 +23,17 @@ use Rattle.trie_theory.proofs.Differ.{byte_at}
 use Rattle.trie_sets.specs.Partition.{with_byte, by_bytes}
 use Rattle.trie_build.specs.Steps.{column_of}
 use Rattle.trie_sets.proofs.Sharing.{region_get, first_of, first_end}
+
+-- the two columns, by cases on the kind
+pub column_path : (kind value path : ℕ) → 2 ≤ kind → path_at + path ≡ column_of kind value path
+column_path zero value path h = absurd (omega arith)
+column_path (suc zero) value path h = absurd (omega arith)
+column_path (suc (suc d)) value path h = refl
+
+pub column_value : (kind value path : ℕ) → kind < 2 → value ≡ column_of kind value path
+column_value zero value path h = refl
+column_value (suc zero) value path h = refl
+column_value (suc (suc d)) value path h = absurd (omega arith)
 
 -- the first byte behind j bytes of a stretch, where there is one
 first_region : (r : List ℕ) (a n j : ℕ) → first zero (drop j (region r a n) ∷ []) < 256 → first zero (drop j (region r a n) ∷ []) ≡ get_or r (a + j) 0

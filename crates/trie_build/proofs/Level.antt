@@ -11,7 +11,7 @@ use Rattle.buffer.proofs.Splice.{length_region}
 use Rattle.rows.specs.Records.{records}
 use Rattle.rows.specs.Sizes.{reference_size, reference_at}
 use Rattle.entries.specs.Slots.{slot_size, slot_key}
-use Rattle.trie_theory.specs.Strings.{at, total}
+use Rattle.trie_theory.specs.Strings.{total}
 use Rattle.trie_theory.specs.Sound.{Wide}
 use Rattle.trie_theory.specs.Level.{level_of}
 use Rattle.trie_theory.specs.Encode.{encode, WholeReference}

@@ -7,7 +7,6 @@ use native.Mathlib.Omega.{arith}
 use lib.ListN.{length, take, drop}
 use lib.Seq.{length-take-le, take_at}
 use Rattle.buffer.specs.Lists.{flat}
-use Rattle.buffer.specs.Numbers.{bytes_of}
 use Rattle.trie_theory.specs.Forest.{Strings, Key, Forest}
 use Rattle.trie_theory.specs.Strings.{at, strip, remains}
 use Rattle.trie_theory.specs.Dimensions.{root, below}

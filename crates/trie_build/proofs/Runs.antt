@@ -15,7 +15,6 @@ use Rattle.buffer.specs.Splice.{region}
 use Rattle.rows.proofs.Records.{record_inside}
 use Rattle.entries.specs.Slots.{slot_size, slot_key}
 use Rattle.trie_theory.specs.Forest.{Strings, Key}
-use Rattle.trie_theory.specs.Strings.{at}
 use Rattle.trie_theory.specs.Position.{shared, byte}
 use Rattle.trie_theory.proofs.Prefix.{Prefixes, From}
 use Rattle.trie_theory.proofs.Parts.{Partition, done, part, part_from}

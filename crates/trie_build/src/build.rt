@@ -34,6 +34,7 @@ fn run(slots: &[u8], n: usize, column: usize) -> usize
 }
 
 // Where in a slot the byte stands at which the keys of a node part.
+#[tactic(auto, using(crate::proofs::Columns::column_path, crate::proofs::Columns::column_value))]
 fn column_of(kind: usize, value: usize, path: usize) -> usize
     requires { (value < slot_size) × (path < slot_size) }
     ensures { result ≡ column_of kind value path }

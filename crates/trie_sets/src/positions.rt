@@ -68,6 +68,7 @@ fn common_bytes(slots: &[u8], n: usize, start: usize, from: usize, limit: usize)
 }
 
 // The first dimension from the wanted one on in which a set differs: 1 for V, 2 for path, 0 for none. `above` is the node above, 0 at the root.
+#[tactic(auto, using(crate::proofs::Turning::turn_path, crate::proofs::Turning::turn_value))]
 fn turn_kind(above: usize, value: bool, path: bool) -> usize
     requires { above ≤ 2 }
     ensures { result ≡ kind_of (turn (passes value path) 2 (above_of above)) }

@@ -11,10 +11,10 @@ returns c =
     let a = c.args in
     let y = key_of a.value.now a.path.now a.reference.now in
     let pre = c.requires in
-    let n = length_suffix_bytes a.value.now a.path.now a.reference.now (omega (arith, pre.1)) in
+    let n = length_suffix_bytes a.value.now a.path.now a.reference.now (omega (arith, pre.value_len_bound)) in
     let put = c.insert_suffix-n.ensures in
     λ depth. record {
       little = omega (arith, put.value);
       are = λ f above w asc h z no e b.
-          leaf_grown a.s.now _ _ a.node a.body a.next a.used _ y f w z no e b (omega (arith, pre.0)) (omega (arith, pre.0)) (omega (arith, pre.0)) (omega (arith, pre.0, put.value)) (put.value ∙ sym n) put.s_after c.put32.ensures;
+          leaf_grown a.s.now _ _ a.node a.body a.next a.used _ y f w z no e b (omega (arith, pre.head_size_bound)) (omega (arith, pre.head_size_bound)) (omega (arith, pre.head_size_bound)) (omega (arith, pre.head_size_bound, put.value)) (put.value ∙ sym n) put.s_after c.put32.ensures;
     }

@@ -9,51 +9,6 @@ use Rattle.trie_read.proofs.Stretch.{length_part}
 use Rattle.trie_add.proofs.Fronts.{fronts, length_fronts, written}
 use Rattle.trie_add.proofs.split.put_parent.Goals as goal
 
-pub overflow_add-from : goal.overflow_add-from
-overflow_add-from c = omega (arith, c.requires)
-
-pub overflow_sub-fronts : goal.overflow_sub-fronts
-overflow_sub-fronts c = omega (arith, c.requires)
-
-pub overflow_add-fronts : goal.overflow_add-fronts
-overflow_add-fronts c = omega (arith, c.requires)
-
-pub overflow_cast-up : goal.overflow_cast-up
-overflow_cast-up c = omega (arith, c.requires)
-
-pub slice_bounds-put_fronts-end : goal.slice_bounds-put_fronts-end
-slice_bounds-put_fronts-end c = omega (arith, c.requires)
-
-pub slice_bounds-put_fronts-count : goal.slice_bounds-put_fronts-count
-slice_bounds-put_fronts-count c = omega (arith, c.requires)
-
-pub slice_bounds-put_fronts-start : goal.slice_bounds-put_fronts-start
-slice_bounds-put_fronts-start c = omega (arith, c.requires)
-
-pub slice_bounds-put_fronts-end-2 : goal.slice_bounds-put_fronts-end-2
-slice_bounds-put_fronts-end-2 c = omega (arith, c.requires)
-
-pub slice_bounds-put_fronts-count-2 : goal.slice_bounds-put_fronts-count-2
-slice_bounds-put_fronts-count-2 c = omega (arith, c.requires)
-
-pub slice_bounds-put_fronts-start-2 : goal.slice_bounds-put_fronts-start-2
-slice_bounds-put_fronts-start-2 c = omega (arith, c.requires)
-
-pub slice_bounds-put_fronts-end-3 : goal.slice_bounds-put_fronts-end-3
-slice_bounds-put_fronts-end-3 c = omega (arith, c.requires)
-
-pub slice_bounds-replace_front-count : goal.slice_bounds-replace_front-count
-slice_bounds-replace_front-count c = omega (arith, c.requires)
-
-pub slice_bounds-replace_front-start : goal.slice_bounds-replace_front-start
-slice_bounds-replace_front-start c = omega (arith, c.requires)
-
-pub slice_bounds-replace_front-end : goal.slice_bounds-replace_front-end
-slice_bounds-replace_front-end c = omega (arith, c.requires)
-
-pub shape_of-s : goal.shape_of-s
-shape_of-s c = omega (arith, c.requires)
-
 pub returns : goal.returns
 unfolding fronts
 returns c =

@@ -26,87 +26,6 @@ size_is : (at start next a b nv np body v p nv' np' v' p' : ℕ) → nv ≡ a + 
     → next + (29 + v + p - (a + b)) - (at + (a + b)) ≡ 7 + nv' + np' + body + (29 + v' + p')
 size_is at start next a b nv np body v p nv' np' v' p' e f g h k l = omega arith
 
-pub overflow_add-from : goal.overflow_add-from
-overflow_add-from c = omega (arith, c.requires)
-
-pub slice_bounds-cut_for-count : goal.slice_bounds-cut_for-count
-slice_bounds-cut_for-count c = omega (arith, c.requires)
-
-pub slice_bounds-cut_for-start : goal.slice_bounds-cut_for-start
-slice_bounds-cut_for-start c = omega (arith, c.requires)
-
-pub slice_bounds-cut_for-end : goal.slice_bounds-cut_for-end
-slice_bounds-cut_for-end c = omega (arith, c.requires)
-
-pub slice_bounds-cut_for-count-2 : goal.slice_bounds-cut_for-count-2
-slice_bounds-cut_for-count-2 c = omega (arith, c.requires)
-
-pub slice_bounds-cut_for-start-2 : goal.slice_bounds-cut_for-start-2
-slice_bounds-cut_for-start-2 c = omega (arith, c.requires)
-
-pub slice_bounds-cut_for-end-2 : goal.slice_bounds-cut_for-end-2
-slice_bounds-cut_for-end-2 c = omega (arith, c.requires)
-
-pub overflow_add-common : goal.overflow_add-common
-overflow_add-common c = omega (arith, c.requires, c.cut_for-c.ensures)
-
-pub overflow_add-n : goal.overflow_add-n
-overflow_add-n c = omega (arith, c.requires, c.cut_for-c.ensures)
-
-pub overflow_add-n-2 : goal.overflow_add-n-2
-overflow_add-n-2 c = omega (arith, c.requires, c.cut_for-c.ensures)
-
-pub overflow_sub-n : goal.overflow_sub-n
-overflow_sub-n c = omega (arith, c.requires, c.cut_for-c.ensures)
-
-pub overflow_add-size : goal.overflow_add-size
-overflow_add-size c = omega (arith, c.requires, c.cut_for-c.ensures)
-
-pub overflow_add-size-2 : goal.overflow_add-size-2
-overflow_add-size-2 c = omega (arith, c.requires, c.cut_for-c.ensures)
-
-pub overflow_sub-size : goal.overflow_sub-size
-overflow_sub-size c = omega (arith, c.requires, c.cut_for-c.ensures)
-
-pub overflow_add-from-2 : goal.overflow_add-from-2
-overflow_add-from-2 c = omega (arith, c.requires, c.cut_for-c.ensures)
-
-pub overflow_add-next : goal.overflow_add-next
-overflow_add-next c = omega (arith, c.requires, c.cut_for-c.ensures)
-
-pub overflow_cast-size : goal.overflow_cast-size
-overflow_cast-size c = omega (arith, c.requires, c.cut_for-c.ensures)
-
-pub overflow_cast-kind : goal.overflow_cast-kind
-overflow_cast-kind c = omega (arith, c.requires, c.cut_for-c.ensures)
-
-pub overflow_sub-next : goal.overflow_sub-next
-overflow_sub-next c = omega (arith, c.requires, c.cut_for-c.ensures)
-
-pub overflow_cast-next : goal.overflow_cast-next
-overflow_cast-next c = omega (arith, c.requires, c.cut_for-c.ensures)
-
-pub overflow_add-used : goal.overflow_add-used
-overflow_add-used c = omega (arith, c.requires, c.cut_for-c.ensures)
-
-pub slice_bounds-insert_leaf-count : goal.slice_bounds-insert_leaf-count
-slice_bounds-insert_leaf-count c = omega (arith, c.requires, c.cut_for-c.ensures)
-
-pub slice_bounds-insert_leaf-start : goal.slice_bounds-insert_leaf-start
-slice_bounds-insert_leaf-start c = omega (arith, c.requires, c.cut_for-c.ensures)
-
-pub slice_bounds-insert_leaf-end : goal.slice_bounds-insert_leaf-end
-slice_bounds-insert_leaf-end c = omega (arith, c.requires, c.cut_for-c.ensures)
-
-pub slice_bounds-insert_leaf-count-2 : goal.slice_bounds-insert_leaf-count-2
-slice_bounds-insert_leaf-count-2 c = omega (arith, c.requires, c.cut_for-c.ensures)
-
-pub slice_bounds-insert_leaf-start-2 : goal.slice_bounds-insert_leaf-start-2
-slice_bounds-insert_leaf-start-2 c = omega (arith, c.requires, c.cut_for-c.ensures)
-
-pub slice_bounds-insert_leaf-end-2 : goal.slice_bounds-insert_leaf-end-2
-slice_bounds-insert_leaf-end-2 c = omega (arith, c.requires, c.cut_for-c.ensures)
-
 pub insert_leaf-requires : goal.insert_leaf-requires
 insert_leaf-requires c =
     let cut = c.cut_for-c.ensures in
@@ -115,20 +34,17 @@ insert_leaf-requires c =
     let x = c.cut_for-c.result.value in
     let y = c.cut_for-c.result.path in
     let s = a.s.now in
-    let lv = length_part s (a.at + 7) a.start (omega (arith, pre.0)) in
-    let lp = length_part s a.start a.body (omega (arith, pre.0)) in
-    let i : c.choose-place.result ≤ a.used + 7 = inside c.cut_for-c.result.first c.choose-place.result (a.at + 7 + (x + y)) (a.next + 7) (a.used + 7) c.choose-place.ensures (omega (arith, cut, pre.0, lv, lp)) (omega (arith, pre.0)) in
-    let dv = c.insert_leaf-arg-2-1.given.2 in
-    let dp = c.insert_leaf-arg-3-1.given.2 in
-    (i, omega (arith, dv, dp, pre.0, cut), omega (arith, dv, pre.1), omega (arith, dp, pre.1), pre.1.5)
+    let lv = length_part s (a.at + 7) a.start (omega (arith, pre.head_size_bound)) in
+    let lp = length_part s a.start a.body (omega (arith, pre.head_size_bound)) in
+    let i : c.choose-place.result ≤ a.used + 7 = inside c.cut_for-c.result.first c.choose-place.result (a.at + 7 + (x + y)) (a.next + 7) (a.used + 7) c.choose-place.ensures (omega (arith, cut, pre.head_size_bound, lv, lp)) (omega (arith, pre.head_size_bound)) in
+    let dv = length-drop x a.value.now in
+    let dp = length-drop y a.path.now in
+    (i, omega (arith, dv, dp, pre.head_size_bound, cut), omega (arith, dv, pre.kind_bound), omega (arith, dp, pre.kind_bound), pre.kind_bound.5)
 
 pub overflow_add-result : goal.overflow_add-result
 overflow_add-result c =
     let pre = c.requires in
-    omega (arith, pre.0)
-
-pub shape_of-s : goal.shape_of-s
-shape_of-s c = omega (arith, c.requires, c.cut_for-c.ensures)
+    omega (arith, pre.head_size_bound)
 
 pub returns : goal.returns
 unfolding fronts
@@ -144,15 +60,18 @@ returns c =
     let v = a.value.now in
     let p = a.path.now in
     let body = region s a.body (a.next - a.body) in
-    let lv = length_part s (a.at + 7) a.start (omega (arith, pre.0)) in
-    let lp = length_part s a.start a.body (omega (arith, pre.0)) in
-    let lb = length_region s a.body (a.next - a.body) (omega (arith, pre.0)) in
+    let lv = length_part s (a.at + 7) a.start (omega (arith, pre.head_size_bound)) in
+    let lp = length_part s a.start a.body (omega (arith, pre.head_size_bound)) in
+    let lb = length_region s a.body (a.next - a.body) (omega (arith, pre.head_size_bound)) in
     let dv = length-drop x v in
     let dp = length-drop y p in
-    let inserted = rw (part_from v x, part_from p y) at c.insert_leaf.ensures.s_after in record { upper_bound = omega (arith, pre.0); replaced = resized
-          (split_done (above_of a.above) a.kind nv np body v p a.reference.now pre.1.5 x y cut.in_value cut.in_path
-          s _ _ a.at a.body a.next a.used (omega (arith, pre.0), omega (arith, pre.0), omega (arith, pre.0), omega (arith, pre.0, cut, dv, dp)) refl (omega (arith, pre.0, lv, lp)) cut.node_value cut.node_path
+    let inserted = rw (part_from v x, part_from p y) at c.insert_leaf.ensures.s_after in record {
+      upper_bound = omega (arith, pre.head_size_bound);
+      replaced = resized
+          (split_done (above_of a.above) a.kind nv np body v p a.reference.now pre.kind_bound.5 x y cut.in_value cut.in_path
+          s _ _ a.at a.body a.next a.used (omega (arith, pre.head_size_bound), omega (arith, pre.head_size_bound), omega (arith, pre.head_size_bound), omega (arith, pre.head_size_bound, cut, dv, dp)) refl (omega (arith, pre.head_size_bound, lv, lp)) cut.node_value cut.node_path
           _ _ _ cut.branches
-          (size_is a.at a.body a.next x y (length nv) (length np) (length body) (length v) (length p) _ _ _ _ (split_length nv x cut.node_value) (split_length np y cut.node_path) (split_length v x cut.key_value) (split_length p y cut.key_path) (omega (arith, pre.0, lv, lp)) (omega (arith, pre.0, lb)))
+          (size_is a.at a.body a.next x y (length nv) (length np) (length body) (length v) (length p) _ _ _ _ (split_length nv x cut.node_value) (split_length np y cut.node_path) (split_length v x cut.key_value) (split_length p y cut.key_path) (omega (arith, pre.head_size_bound, lv, lp)) (omega (arith, pre.head_size_bound, lb)))
           (sym lb) c.put_parent.ensures _ _ cut.before c.choose-place.ensures inserted)
-          (omega (arith, pre.0, cut, dv, dp)) }
+          (omega (arith, pre.head_size_bound, cut, dv, dp));
+    }

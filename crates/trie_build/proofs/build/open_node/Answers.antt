@@ -24,7 +24,7 @@ split-own-requires c =
     let m : ℕ = (a.slots + a.n * slot_size) - a.slots in
     let t = drop a.slots a.s.now in
     let k = keys_part a.n m t (omega arith) in
-    (p.0, omega (arith, c.split-arg-1.given.2), p.1, short_part a.n m t (omega arith) ∙ p.2, rw k p.3, rw k p.4)
+    (p.0, omega arith, p.1, short_part a.n m t (omega arith) ∙ p.2, rw k p.3, rw k p.4)
 
 pub put_strings-requires : goal.put_strings-requires
 put_strings-requires c =

@@ -1,10 +1,7 @@
 -- The slots passed, the first among them, have the first one's byte.
-use borrow.Author.Count.{below_more}
-use native.Mathlib.Omega.{arith}
 use Prim.Native.Nat.{ℕ, ◌+◌, ◌-◌, ◌≤◌, ◌<◌}
 use mathlib.Core.Path.{◌≡◌}
 use Rattle.trie_sets.specs.Positions.{slot_byte}
-use Rattle.trie_sets.proofs.Sets.{slot_zero}
 use Rattle.trie_build.proofs.build.run.Given as goal
 
 abbrev pub invariant-loop-more : goal.invariant-loop-more

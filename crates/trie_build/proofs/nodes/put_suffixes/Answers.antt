@@ -1,8 +1,7 @@
 -- Suffix by suffix (`Suffixed`).
 use native.Mathlib.Omega.{arith}
-use Prim.Native.Nat.{◌-◌, ◌≤◌}
 use mathlib.Core.Path.{◌≡◌}
-use Rattle.trie_build.proofs.Wrote.{Suffixed, suffixed_none, suffixed_all, suffix_room, suffix_behind, suffixed_more}
+use Rattle.trie_build.proofs.Wrote.{suffixed_none, suffixed_all, suffix_room, suffix_behind, suffixed_more}
 use Rattle.trie_build.proofs.nodes.put_suffixes.Goals as goal
 
 pub loop-k-init : goal.loop-k-init
@@ -19,8 +18,7 @@ put_rest-o-requires c =
 
 pub loop-k-preserved : goal.loop-k-preserved
 loop-k-preserved c =
-    let l = c.loop-k in
-    (
+    let l = c.loop-k in (
       omega arith,
       suffixed_more l.invariant.1 c.requires.1 c.requires.2 c.loop-k-test.true _ _ c.put_rest-o.auto.s c.put_rest-o.ensures.0 c.put_rest-o.ensures.1,
     )

@@ -1,8 +1,6 @@
 -- Suffix by suffix (`Suffixed`).
-use native.Mathlib.Omega.{arith}
 use Prim.Native.Nat.{◌-◌, ◌≤◌}
-use mathlib.Core.Path.{◌≡◌}
-use Rattle.trie_build.proofs.Wrote.{Suffixed, suffixed_none, suffixed_all, suffix_room, suffix_behind, suffixed_more}
+use Rattle.trie_build.proofs.Wrote.{Suffixed}
 use Rattle.trie_build.proofs.nodes.put_suffixes.Given as goal
 
 abbrev pub invariant-loop-k : goal.invariant-loop-k

@@ -1,16 +1,13 @@
 -- The siblings that are passed have lesser branching bytes (`Seek`), and what is left is shorter.
-use native.Mathlib.Omega.{arith}
-use Prim.Native.Nat.{◌+◌, ◌≤◌, ◌<◌}
-use mathlib.Core.Path.{◌≡◌, sym, ◌∙◌}
+use Prim.Native.Nat.{◌+◌, ◌≤◌}
+use mathlib.Core.Path.{◌≡◌}
 use mathlib.Core.List.{[], ◌∷◌}
 use lib.ListN.{length}
 use Rattle.trie_theory.specs.Forest.{Forest}
 use Rattle.trie_theory.specs.Sound.{Ascending}
 use Rattle.trie_theory.specs.Encode.{Regular, encode}
 use Rattle.trie_read.specs.Shape.{above_of}
-use Rattle.trie_read.specs.Heads.{Inside}
-use Rattle.trie_read.specs.declared.head.Head.TheVariants.{Node}
-use Rattle.trie_read.proofs.Seeking.{Seek, seek_start, seek_end, seek_bad, seek_found, seek_gap, seek_past}
+use Rattle.trie_read.proofs.Seeking.{Seek}
 use Rattle.trie_read.proofs.place.find.Given as goal
 
 abbrev pub invariant-loop-kind : goal.invariant-loop-kind

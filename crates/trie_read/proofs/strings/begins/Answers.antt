@@ -1,17 +1,11 @@
 -- After i equal bytes, what is left decides.
 use native.Mathlib.Omega.{arith}
-use Prim.Native.Nat.{◌≤◌, ◌-◌}
-use mathlib.Core.Path.{◌≡◌, refl, sym, ◌∙◌}
-use lib.ListN.{length, drop}
-use Rattle.trie_theory.specs.Strings.{begins}
+use mathlib.Core.Path.{sym, ◌∙◌}
 use Rattle.trie_read.proofs.Compare.{begins_short, begins_all, begins_on, begins_off}
 use Rattle.trie_read.proofs.strings.begins.Goals as goal
 
 pub returns-then-s-p : goal.returns-then-s-p
 returns-then-s-p c = sym (begins_short _ _ (omega arith))
-
-pub loop-i-init : goal.loop-i-init
-loop-i-init c = (omega arith, omega arith, refl)
 
 pub returns-then-p-i : goal.returns-then-p-i
 returns-then-p-i c =

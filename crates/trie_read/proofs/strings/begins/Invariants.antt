@@ -1,10 +1,8 @@
 -- After i equal bytes, what is left decides.
-use native.Mathlib.Omega.{arith}
 use Prim.Native.Nat.{◌≤◌, ◌-◌}
-use mathlib.Core.Path.{◌≡◌, refl, sym, ◌∙◌}
+use mathlib.Core.Path.{◌≡◌}
 use lib.ListN.{length, drop}
 use Rattle.trie_theory.specs.Strings.{begins}
-use Rattle.trie_read.proofs.Compare.{begins_short, begins_all, begins_on, begins_off}
 use Rattle.trie_read.proofs.strings.begins.Given as goal
 
 abbrev pub invariant-loop-i : goal.invariant-loop-i

@@ -1,14 +1,7 @@
 -- After i equal bytes, what is left adds the rest.
 use native.Mathlib.Omega.{arith}
-use Prim.Native.Nat.{◌+◌, ◌≤◌, ◌-◌}
-use mathlib.Core.Path.{◌≡◌}
-use lib.ListN.{length, drop}
-use Rattle.trie_theory.specs.Strings.{common}
 use Rattle.trie_read.proofs.Compare.{common_none, common_short, common_on, common_off}
 use Rattle.trie_read.proofs.strings.common_length.Goals as goal
-
-pub loop-i-init : goal.loop-i-init
-loop-i-init c = (omega arith, omega arith, omega arith)
 
 pub returns-then-i-b : goal.returns-then-i-b
 returns-then-i-b c =

@@ -1,10 +1,8 @@
 -- After i equal bytes, what is left adds the rest.
-use native.Mathlib.Omega.{arith}
 use Prim.Native.Nat.{◌+◌, ◌≤◌, ◌-◌}
 use mathlib.Core.Path.{◌≡◌}
 use lib.ListN.{length, drop}
 use Rattle.trie_theory.specs.Strings.{common}
-use Rattle.trie_read.proofs.Compare.{common_none, common_short, common_on, common_off}
 use Rattle.trie_read.proofs.strings.common_length.Given as goal
 
 abbrev pub invariant-loop-i : goal.invariant-loop-i

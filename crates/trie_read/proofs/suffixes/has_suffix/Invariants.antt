@@ -1,14 +1,12 @@
 -- The suffixes that are passed are not the key; what is left is shorter.
-use native.Mathlib.Omega.{arith}
-use mathlib.Core.Path.{◌≡◌, sym, ◌∙◌}
+use mathlib.Core.Path.{◌≡◌}
 use mathlib.Core.List.{List}
 use lib.ListN.{length}
 use Rattle.trie_theory.specs.Forest.{Key}
 use Rattle.buffer.specs.Lists.{All}
 use Rattle.trie_read.specs.Shape.{Fixed, key_of}
-use Rattle.trie_read.specs.Suffixes.{suffixes_bytes, Within}
-use Rattle.trie_read.specs.declared.suffixes.Tail.TheVariants.{At}
-use Rattle.trie_read.proofs.Among.{Among, among_start, among_end, among_bad, among_found, among_next}
+use Rattle.trie_read.specs.Suffixes.{suffixes_bytes}
+use Rattle.trie_read.proofs.Among.{Among}
 use Rattle.trie_read.proofs.suffixes.has_suffix.Given as goal
 
 abbrev pub invariant-loop-at : goal.invariant-loop-at

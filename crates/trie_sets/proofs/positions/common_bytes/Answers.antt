@@ -1,10 +1,7 @@
 -- Position by position, slot by slot.
 use borrow.Author.Count.{below_more}
 use native.Mathlib.Omega.{arith}
-use Prim.Native.Nat.{ℕ, ◌+◌, ◌-◌, ◌≤◌, ◌<◌}
-use mathlib.Core.Path.{◌≡◌}
-use lib.ListN.{get_or}
-use Rattle.trie_sets.specs.Positions.{slot_byte}
+use Prim.Native.Nat.{◌+◌}
 use Rattle.trie_sets.proofs.Sets.{slot_zero, alike_more}
 use Rattle.trie_sets.proofs.positions.common_bytes.Goals as goal
 

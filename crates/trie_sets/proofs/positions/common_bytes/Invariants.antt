@@ -1,11 +1,8 @@
 -- Position by position, slot by slot.
-use borrow.Author.Count.{below_more}
-use native.Mathlib.Omega.{arith}
 use Prim.Native.Nat.{ℕ, ◌+◌, ◌-◌, ◌≤◌, ◌<◌}
 use mathlib.Core.Path.{◌≡◌}
 use lib.ListN.{get_or}
 use Rattle.trie_sets.specs.Positions.{slot_byte}
-use Rattle.trie_sets.proofs.Sets.{slot_zero, alike_more}
 use Rattle.trie_sets.proofs.positions.common_bytes.Given as goal
 
 abbrev pub invariant-loop-k : goal.invariant-loop-k

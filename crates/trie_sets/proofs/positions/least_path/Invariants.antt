@@ -1,10 +1,6 @@
 -- The least of the slots passed.
-use native.Mathlib.Omega.{arith}
 use Prim.Native.Nat.{◌-◌, ◌≤◌}
-use mathlib.Core.Path.{◌≡◌}
-use mathlib.Core.Logic.{⊎_elim}
 use Rattle.trie_sets.specs.Positions.{Least}
-use Rattle.trie_sets.proofs.Sets.{least_first, least_less, least_kept}
 use Rattle.trie_sets.proofs.positions.least_path.Given as goal
 
 abbrev pub invariant-loop-k : goal.invariant-loop-k

@@ -1,13 +1,9 @@
 -- The paths passed are short.
 use borrow.Author.Count.{below_more}
 use native.Mathlib.Omega.{arith}
-use Prim.Native.Nat.{ℕ, ◌-◌, ◌≤◌, ◌<◌}
 use mathlib.Core.Path.{sym}
-use Rattle.rows.specs.Sizes.{length_at}
-use Rattle.matcher.specs.Bytes.{path_limit}
 use Rattle.buffer.proofs.Tests.{not-true}
 use Rattle.trie_sets.specs.Sets.{short_paths}
-use Rattle.trie_sets.specs.Positions.{slot_byte}
 use Rattle.trie_sets.proofs.Splitting.{path_short, short_paths_lem}
 use Rattle.trie_sets.proofs.positions.paths_are_short.Goals as goal
 

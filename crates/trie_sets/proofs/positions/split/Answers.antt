@@ -13,9 +13,6 @@ use Rattle.rows.specs.Sizes.{value_size}
 use Rattle.trie_sets.proofs.Splitting.{path_short, value_shared, value_differs, path_shared, path_differs, value_known, path_known, kind_many, kind_few}
 use Rattle.trie_sets.proofs.positions.split.Goals.{After-common_bytes-path_shared, After-least_path-ends}
 use Rattle.trie_sets.proofs.positions.split.Goals as goal
-use Rattle.trie_sets.proofs.positions.split.Lts.View as view
-use Rattle.trie_sets.proofs.positions.split.Tie as tie
-use Rattle.trie_sets.proofs.positions.split.Reads as reads
 
 -- the least path is short
 least_short : (c : After-least_path-ends) → c.least_path-ends.result ≤ 200
@@ -35,25 +32,25 @@ value_is : (c : After-common_bytes-path_shared) → length (at 0 (shared (set c)
 value_is c =
     let a = c.args in
     let p = c.requires in
-    value_shared a.slots.now a.n p.0 p.1 p.3 (small (view.up-After-least_path-ends tie.the-claims reads.Pre reads.Post c)) _ c.least_path-ends.ensures a.value _ p.4 c.common_bytes-value_shared.ensures
+    value_shared a.slots.now a.n p.0 p.1 p.3 (λ i. omega (arith, c.type_inv.slots i)) _ c.least_path-ends.ensures a.value _ p.4 c.common_bytes-value_shared.ensures
 
 value_test : (c : After-common_bytes-path_shared) → ltb c.common_bytes-value_shared.result value_size ≡ differ 0 (set c)
 value_test c =
     let a = c.args in
     let p = c.requires in
-    value_differs a.slots.now a.n p.0 p.1 p.3 (small (view.up-After-least_path-ends tie.the-claims reads.Pre reads.Post c)) _ c.least_path-ends.ensures a.value _ p.4 c.common_bytes-value_shared.ensures
+    value_differs a.slots.now a.n p.0 p.1 p.3 (λ i. omega (arith, c.type_inv.slots i)) _ c.least_path-ends.ensures a.value _ p.4 c.common_bytes-value_shared.ensures
 
 path_is : (c : After-common_bytes-path_shared) → length (at 1 (shared (set c))) ≡ c.common_bytes-path_shared.result
 path_is c =
     let a = c.args in
     let p = c.requires in
-    path_shared a.slots.now a.n p.0 p.1 p.3 (small (view.up-After-least_path-ends tie.the-claims reads.Pre reads.Post c)) _ c.least_path-ends.ensures a.path _ p.5 c.common_bytes-path_shared.ensures
+    path_shared a.slots.now a.n p.0 p.1 p.3 (λ i. omega (arith, c.type_inv.slots i)) _ c.least_path-ends.ensures a.path _ p.5 c.common_bytes-path_shared.ensures
 
 path_test : (c : After-common_bytes-path_shared) → ltb c.common_bytes-path_shared.result (c.least_path-ends.result + 1) ≡ differ 1 (set c)
 path_test c =
     let a = c.args in
     let p = c.requires in
-    path_differs a.slots.now a.n p.0 p.1 p.3 (small (view.up-After-least_path-ends tie.the-claims reads.Pre reads.Post c)) _ c.least_path-ends.ensures a.path _ p.5 c.common_bytes-path_shared.ensures
+    path_differs a.slots.now a.n p.0 p.1 p.3 (λ i. omega (arith, c.type_inv.slots i)) _ c.least_path-ends.ensures a.path _ p.5 c.common_bytes-path_shared.ensures
 
 pub overflow_add-ends : goal.overflow_add-ends
 overflow_add-ends c = omega (arith, least_short c)

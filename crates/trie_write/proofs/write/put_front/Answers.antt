@@ -1,6 +1,5 @@
 -- Six writes side by side are one splice.
 use native.Mathlib.Omega.{arith}
-use Prim.Native.Nat.{◌+◌}
 use mathlib.Core.Path.{◌≡◌, ap, ◌∙◌}
 use mathlib.Core.List.{List, [], ◌∷◌, ◌++◌, append_assoc}
 use lib.ListN.{length, length-set, length-append}

@@ -1,6 +1,5 @@
 -- The front, and the suffix right behind it.
 use native.Mathlib.Omega.{arith}
-use Prim.Native.Nat.{◌+◌}
 use mathlib.Core.Path.{sym, ap, ◌∙◌}
 use mathlib.Core.List.{[], ◌∷◌, ◌++◌, append-nil}
 use Rattle.buffer.specs.Splice.{splice}
