@@ -1,7 +1,7 @@
 use native.Mathlib.Omega.{arith}
 use mathlib.Core.Path.{◌≡◌, ap}
 use lib.ListN.{length}
-use Prim.Native.Nat.{ℕ, ◌+◌, ◌/◌, ◌<◌}
+use Prim.Native.Nat.{◌+◌, ◌/◌}
 use Rattle.linespell.specs.Spelling.{decimal}
 use Rattle.linespell.proofs.Writing.{then}
 use Rattle.linespell.proofs.Decimals.{decimal_low, decimal_high, decimal_shorter}

@@ -1,12 +1,9 @@
 -- After i turns the digits of the first i bytes are written.
-use native.Mathlib.Omega.{arith}
-use Prim.Native.Nat.{◌-◌, ◌*◌, ◌≤◌}
-use mathlib.Core.Path.{◌≡◌, refl, ◌∙◌}
-use lib.ListN.{length, take, length-set}
-use lib.Seq.{take_all}
+use Prim.Native.Nat.{◌-◌, ◌≤◌}
+use mathlib.Core.Path.{◌≡◌}
+use lib.ListN.{length, take}
 use Rattle.buffer.specs.Splice.{splice}
 use Rattle.linespell.specs.Spelling.{hex}
-use Rattle.linespell.proofs.Writing.{hex_start, hex_turn, length_hex}
 use Rattle.linespell.proofs.spell.put_hex.Given as goal
 
 abbrev pub invariant-loop-i : goal.invariant-loop-i

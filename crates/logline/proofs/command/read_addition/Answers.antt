@@ -2,7 +2,7 @@
 use native.Mathlib.Omega.{arith}
 use Prim.Native.Nat.{◌-◌}
 use mathlib.Core.Path.{◌≡◌, sym, ◌∙◌}
-use borrow.Author.Tests.{not-true, not-false}
+use borrow.Author.Tests.{not-false}
 use Rattle.logline.proofs.Reading.{misreads, there, lost, reference_field, number_lost, number_there, number_behind}
 use Rattle.logline.proofs.command.read_addition.Goals as goal
 
