@@ -1,9 +1,6 @@
 -- The length stays, and what is left to fill falls.
 use borrow.Author.Rules.{rules}
 use native.Mathlib.Omega.{arith}
-use Prim.Native.Nat.{◌-◌, ◌≤◌, ◌<◌}
-use mathlib.Core.Path.{◌≡◌}
-use lib.ListN.{length}
 use Rattle.rows_vectors.proofs.fill.Goals as goal
 
 pub loop-at-preserved : goal.loop-at-preserved

@@ -1,5 +1,5 @@
 -- Short paths are what the builder asks for.
-use Rattle.std.proofs.Common.{drop, sym, ◌∙◌, arith, rules}
+use Rattle.std.proofs.Common.{drop, sym, ◌∙◌, arith}
 use Rattle.trie_build.proofs.Opening.{short_part}
 use Rattle.trie_build_vectors.proofs.level.Goals as goal
 

@@ -1,5 +1,5 @@
 -- Set by set.
-use Rattle.std.proofs.Common.{◌≡◌, ◌-◌, ◌≤◌, length, rules}
+use Rattle.std.proofs.Common.{◌≡◌, ◌-◌, ◌≤◌, length}
 use Rattle.trie_build_vectors.proofs.run.Given as goal
 
 abbrev pub invariant-loop-at : goal.invariant-loop-at

@@ -1,5 +1,5 @@
 -- Each row lies within the input.
-use Rattle.std.proofs.Common.{◌≡◌, ◌-◌, ◌≤◌, length, rules}
+use Rattle.std.proofs.Common.{◌≡◌, ◌-◌, ◌≤◌, length}
 use Rattle.trie_build_vectors.proofs.set.Given as goal
 
 abbrev pub invariant-loop-k : goal.invariant-loop-k
