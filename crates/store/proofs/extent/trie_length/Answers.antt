@@ -7,6 +7,10 @@ use Rattle.store.proofs.extent.trie_length.Goals.{After-wide-2}
 use Rattle.store.proofs.extent.trie_length.Goals as goal
 
 -- what is read is the root's
+record Read (c : After-wide-2) : Type 0 where
+  end : 7 + c.wide.result + c.wide-2.result + c.wide32-body.result ≡ ends c.args.t.now
+  body : c.wide32-body.result ≡ body_at c.args.t.now
+
 read : (c : After-wide-2) → Read c
 read c =
     let b = c.wide32-body.ensures.0 ∙ c.get32.ensures in
