@@ -1,0 +1,8 @@
+-- One trie behind those before it.
+use native.Mathlib.Omega.{arith}
+use Prim.Native.Nat.{ℕ, ◌-◌, ◌<◌}
+use Rattle.store_overflow.proofs.FirstTries.{gathered_none, gathered_more}
+use Rattle.store_overflow.proofs.gathering.+gather_first.Given as goal
+
+abbrev pub decreases-gather_first : goal.decreases-gather_first
+decreases-gather_first l = l.k
