@@ -1,16 +1,11 @@
 -- The first node of what is left lies in it (`inside`); entered or not, the walk goes on behind it.
 use native.Mathlib.Omega.{arith}
-use Prim.Native.Nat.{ℕ, ◌+◌, ◌-◌, ◌≤◌, ◌<◌}
-use mathlib.Core.Path.{◌≡◌, refl, sym, ◌∙◌}
-use lib.ListN.{length}
-use Rattle.entries.specs.Slots.{slot_size}
-use Rattle.trie_read.specs.Shape.{part}
+use Prim.Native.Nat.{ℕ, ◌-◌}
+use mathlib.Core.Path.{refl, sym, ◌∙◌}
 use Rattle.trie_read.specs.Heads.{Inside}
 use Rattle.trie_read.specs.declared.head.Head.TheVariants.{Node}
 use Rattle.trie_read.proofs.Stretch.{length_part}
-use Rattle.gather.specs.KeySlots.{key_slot, known}
-use Rattle.gather.specs.Walks.{TrieKeys, BodyKeys}
-use Rattle.gather.proofs.Putting.{Going, going_from, put_as}
+use Rattle.gather.proofs.Putting.{going_from, put_as}
 use Rattle.gather.proofs.Stepping.{entered_room, put_low, tries_end, tries_bad, tries_in, tries_out}
 use Rattle.gather.proofs.walk.+walk.Goals.{In-Node, then-enter, else-enter}
 use Rattle.gather.proofs.walk.+walk.Goals as goal
@@ -105,10 +100,10 @@ loop-own-preserved t c =
     let entered = c.enter.ensures in
     let key = c.enter.auto.key ∙ l.invariant.4 in
     elim c.if-enter.branch [
-      then-enter y ↦ (
+      | then-enter y ↦ (
         omega arith,
         omega arith,
-        omega (arith, w, l.invariant.0, l.invariant.1, l.invariant.2, y.m-is, y.walk-m.ensures.upper_bound),
+        omega (arith, y.walk-m.ensures.upper_bound),
         rw y.s-is (y.walk-m.auto.s ∙ l.invariant.3),
         rw y.key-is (y.walk-m.auto.key ∙ key),
         rw (y.s-is, y.key-is, y.m-is)

@@ -1,18 +1,12 @@
 -- Each turn puts the keys of one node (`Going`); what is left of the siblings is shorter, and the depth left falls.
-use native.Mathlib.Omega.{arith}
-use Prim.Native.Nat.{ℕ, ◌+◌, ◌-◌, ◌≤◌, ◌<◌}
-use mathlib.Core.Path.{◌≡◌, refl, sym, ◌∙◌}
-use mathlib.Core.Logic.{⊎_elim}
+use Prim.Native.Nat.{◌+◌, ◌-◌, ◌≤◌}
+use mathlib.Core.Path.{◌≡◌}
 use lib.ListN.{length}
 use Rattle.entries.specs.Slots.{slot_size}
 use Rattle.trie_read.specs.Shape.{part}
-use Rattle.trie_read.specs.Heads.{Inside}
-use Rattle.trie_read.specs.declared.head.Head.TheVariants.{Node}
-use Rattle.trie_read.proofs.Stretch.{length_part}
 use Rattle.gather.specs.KeySlots.{key_slot, known}
 use Rattle.gather.specs.Walks.{TrieKeys, BodyKeys}
-use Rattle.gather.proofs.Putting.{Going, going_from, put_as}
-use Rattle.gather.proofs.Stepping.{entered_room, put_low, tries_end, tries_bad, tries_in, tries_out}
+use Rattle.gather.proofs.Putting.{Going}
 use Rattle.gather.proofs.walk.+walk.Given as goal
 
 abbrev pub decreases-walk : goal.decreases-walk

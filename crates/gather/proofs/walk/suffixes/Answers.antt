@@ -1,16 +1,13 @@
 -- Each turn puts the key of one suffix (`Going`), and what is left is shorter.
 use native.Mathlib.Omega.{arith}
-use Prim.Native.Nat.{◌+◌, ◌-◌, ◌≤◌}
+use Prim.Native.Nat.{◌-◌}
 use mathlib.Core.Path.{◌≡◌, refl, sym, ◌∙◌}
 use lib.ListN.{length}
 use Rattle.entries.specs.Slots.{slot_size}
-use Rattle.trie_read.specs.Shape.{part}
 use Rattle.trie_read.specs.Suffixes.{Within}
 use Rattle.trie_read.specs.declared.suffixes.Tail.TheVariants.{At}
 use Rattle.trie_read.proofs.Stretch.{length_part}
-use Rattle.gather.specs.KeySlots.{key_slot, known}
-use Rattle.gather.specs.Walks.{SuffixKeys}
-use Rattle.gather.proofs.Putting.{Going, going_start}
+use Rattle.gather.proofs.Putting.{going_start}
 use Rattle.gather.proofs.Stepping.{suffixes_end, suffixes_bad, suffixes_put, suffixes_pass}
 use Rattle.gather.proofs.walk.suffixes.Goals.{In-At, then-compose, else-compose}
 use Rattle.gather.proofs.walk.suffixes.Goals as goal
@@ -47,7 +44,7 @@ loop-path-preserved c =
     let told = c.compose.ensures in
     let key = c.compose.auto.key ∙ l.invariant.4 in
     elim c.if-compose.branch [
-      then-compose y ↦ (
+      | then-compose y ↦ (
         omega arith,
         omega arith,
         omega arith,
