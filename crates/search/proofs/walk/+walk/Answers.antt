@@ -1,20 +1,15 @@
 -- The first node of what is left lies in it (`inside`); entered or not, the walk goes on behind it.
 use native.Mathlib.Omega.{arith}
-use Prim.Native.Nat.{ℕ, ◌+◌, ◌≤◌, ◌<◌}
-use mathlib.Core.Path.{◌≡◌, refl, sym, ◌∙◌}
+use Prim.Native.Nat.{ℕ}
+use mathlib.Core.Path.{refl, sym, ◌∙◌}
 use lib.ListN.{length}
-use Rattle.entries.specs.Slots.{slot_size}
 use Rattle.trie_read.specs.Heads.{Inside}
 use Rattle.trie_read.specs.declared.head.Head.TheVariants.{Node}
 use Rattle.trie_read.proofs.Stretch.{length_part}
-use Rattle.gather.specs.KeySlots.{known}
-use Rattle.entries.specs.Query.{asked}
-use Rattle.search.specs.Steps.{over}
-use Rattle.search.specs.Searches.{TriesFound, BodyFound}
 use Rattle.search.proofs.Steps.{descended_room, common_kept}
-use Rattle.search.proofs.Finding.{Finding, finding_from, finding_end}
+use Rattle.search.proofs.Finding.{finding_from, finding_end}
 use Rattle.search.proofs.Siblings.{tries_end, tries_bad, siblings_in, siblings_done, siblings_past, body_suffixes, body_low}
-use Rattle.search.proofs.walk.+walk.Goals.{In-Node, else-common, else-descend}
+use Rattle.search.proofs.walk.+walk.Goals.{In-Node, then-descend+else-common, else-descend}
 use Rattle.search.proofs.walk.+walk.Goals as goal
 
 -- the places of the first node lie in what is left
@@ -125,7 +120,7 @@ loop-own-preserved t c =
     let key = c.descend.auto.key ∙ l.invariant.2 in
     let long = length_part l.t.now c.in-Node.start c.in-Node.next (omega arith) in
     elim c.if-descend.branch [
-      else-common y ↦ (
+      | then-descend+else-common y ↦ (
         omega (arith, y.walk-found.ensures.rows_bound.0),
         omega (arith, y.walk-found.ensures.rows_bound.1),
         rw y.key-is (y.walk-found.auto.key ∙ key),

@@ -1,21 +1,14 @@
 -- Each turn finds the keys of one node that a search enters, or passes it (`Finding`); what is left of the siblings is shorter, and the depth left
 -- falls.
-use native.Mathlib.Omega.{arith}
-use Prim.Native.Nat.{ℕ, ◌+◌, ◌≤◌, ◌<◌}
-use mathlib.Core.Path.{◌≡◌, refl, sym, ◌∙◌}
-use mathlib.Core.Logic.{⊎_elim}
+use Prim.Native.Nat.{◌+◌, ◌≤◌}
+use mathlib.Core.Path.{◌≡◌}
 use lib.ListN.{length}
 use Rattle.entries.specs.Slots.{slot_size}
-use Rattle.trie_read.specs.Heads.{Inside}
-use Rattle.trie_read.specs.declared.head.Head.TheVariants.{Node}
-use Rattle.trie_read.proofs.Stretch.{length_part}
 use Rattle.gather.specs.KeySlots.{known}
 use Rattle.entries.specs.Query.{asked}
 use Rattle.search.specs.Steps.{over}
 use Rattle.search.specs.Searches.{TriesFound, BodyFound}
-use Rattle.search.proofs.Steps.{descended_room, common_kept}
-use Rattle.search.proofs.Finding.{Finding, finding_from, finding_end}
-use Rattle.search.proofs.Siblings.{tries_end, tries_bad, siblings_in, siblings_done, siblings_past, body_suffixes, body_low}
+use Rattle.search.proofs.Finding.{Finding}
 use Rattle.search.proofs.walk.+walk.Given as goal
 
 abbrev pub decreases-walk : goal.decreases-walk

@@ -1,7 +1,7 @@
 -- Each turn finds the key of one suffix, or passes it (`Finding`), and what is left is shorter.
 use borrow.Author.Tests.{ltb-true}
 use native.Mathlib.Omega.{arith}
-use Prim.Native.Nat.{ℕ, ◌+◌, ◌-◌, ◌≤◌}
+use Prim.Native.Nat.{ℕ, ◌+◌, ◌-◌}
 use mathlib.Core.Path.{◌≡◌, refl, sym, ◌∙◌}
 use mathlib.Core.Bool.{true, ◌&&◌}
 use mathlib.Core.List.{List}
@@ -19,9 +19,8 @@ use Rattle.trie_read.specs.declared.suffixes.Tail.TheVariants.{At}
 use Rattle.gather.specs.KeySlots.{known}
 use Rattle.entries.specs.Query.{asked}
 use Rattle.value_range.specs.Spans.{Spans}
-use Rattle.search.specs.Searches.{SuffixesFound}
 use Rattle.search.proofs.Steps.{span_kept, known_span, known_long}
-use Rattle.search.proofs.Finding.{Finding, finding_from, finding_end, suffixes_end, suffixes_bad, suffixes_above, suffixes_put, suffixes_pass}
+use Rattle.search.proofs.Finding.{finding_from, finding_end, suffixes_end, suffixes_bad, suffixes_above, suffixes_put, suffixes_pass}
 use Rattle.search.proofs.walk.suffixes.Goals.{After-is_above, In-At, then-take_key, else-take_key}
 use Rattle.search.proofs.walk.suffixes.Goals as goal
 
@@ -58,9 +57,12 @@ returns-then-is_above c =
     let n = number (part 22 path c.loop-path.t.now) in
     let told : eqb (a.v + (path - 22)) value_size && ltb to n ≡ true = sym c.is_above.ensures ∙ c.if-is_above.true in
     let long = length-take-le a.v a.key.now (omega (arith, pre.buffer, pre.value)) in
-    let whole : length (at 0 (known a.v a.p a.key.now)) + (value_size - a.v) ≡ value_size = omega (arith, long, known_long a.v a.p a.key.now, pre.value) in record { upper_bound = omega arith; searched = finding_end c.loop-path.invariant.3
+    let whole : length (at 0 (known a.v a.p a.key.now)) + (value_size - a.v) ≡ value_size = omega (arith, long, known_long a.v a.p a.key.now, pre.value) in record {
+      upper_bound = omega arith;
+      searched = finding_end c.loop-path.invariant.3
           (suffixes_above c.read_suffix.ensures.value path _ c.in-At.is (known_span a.v a.p a.key.now (spanned (goal.at.returns-then-is_above c).After-is_above)) whole
-          (ltb-true to n (and_right (eqb (a.v + (path - 22)) value_size) (ltb to n) told))) }
+          (ltb-true to n (and_right (eqb (a.v + (path - 22)) value_size) (ltb to n) told)));
+    }
 
 pub take_key-requires : goal.take_key-requires
 take_key-requires c = let w = within (goal.at.take_key-requires c).In-At in let pre = c.requires in record { pattern_value = pre.formed; key_len = (c.loop-path.invariant.1, pre.value, pre.path, omega arith, omega arith, omega arith) }
@@ -97,7 +99,7 @@ loop-path-preserved c =
     let taken = c.take_key.ensures a.low a.high rest in
     let key = c.take_key.auto.key ∙ l.invariant.1 in
     elim c.if-take_key.branch [
-      then-take_key y ↦ (
+      | then-take_key y ↦ (
         omega arith,
         key,
         rw y.answer-is (y.put.auto.s ∙ l.invariant.2),
