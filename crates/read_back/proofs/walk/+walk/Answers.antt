@@ -1,22 +1,18 @@
 -- The first node of what is left lies in it (`inside`); entered or not, the walk goes on behind it.
 use native.Mathlib.Omega.{arith}
-use Prim.Native.Nat.{ℕ, ◌+◌, ◌-◌, ◌*◌, ◌≤◌, ◌<◌}
+use Prim.Native.Nat.{ℕ, ◌+◌, ◌*◌, ◌≤◌}
 use mathlib.Core.Path.{◌≡◌, refl, sym, ap, ◌∙◌}
 use mathlib.Core.List.{List}
 use lib.ListN.{length, take}
 use lib.Seq.{take-take}
-use Rattle.rows.specs.Sizes.{node_limit}
-use Rattle.entries.specs.Slots.{slot_size}
 use Rattle.trie_read.specs.Heads.{Inside}
 use Rattle.trie_read.specs.declared.head.Head.TheVariants.{Node}
 use Rattle.trie_read.proofs.Stretch.{length_part}
-use Rattle.gather.specs.KeySlots.{known}
 use Rattle.gather.proofs.Putting.{going_from, going_end, put_as, put_none}
 use Rattle.gather.proofs.Stepping.{entered_room}
-use Rattle.read_back.specs.Readings.{node_size, way_size}
-use Rattle.read_back.specs.Walks.{TrieRecords, BodyRecords}
+use Rattle.read_back.specs.Readings.{node_size}
 use Rattle.read_back.proofs.Splits.{below_end, below_bad, low_records}
-use Rattle.read_back.proofs.Turns.{Going, siblings_in, siblings_past}
+use Rattle.read_back.proofs.Turns.{siblings_in, siblings_past}
 use Rattle.read_back.proofs.walk.+walk.Goals.{In-Node, then-descend, else-descend}
 use Rattle.read_back.proofs.walk.+walk.Goals as goal
 
@@ -119,7 +115,7 @@ loop-own-preserved t c =
     let way = c.descend.auto.way ∙ l.invariant.2 in
     let long = length_part l.t.now c.in-Node.start c.in-Node.next (omega arith) in
     elim c.if-descend.branch [
-      then-descend y ↦ (
+      | then-descend y ↦ (
         omega (arith, y.m-is, y.walk-m.ensures.upper_bound.0),
         rw y.key-is (y.walk-m.auto.key ∙ key),
         rw y.way'-is (y.walk-m.auto.way ∙ way),

@@ -1,23 +1,13 @@
 -- Each turn writes the records of one node (`Going`); what is left of the siblings is shorter, and fewer nodes are left to enter.
-use native.Mathlib.Omega.{arith}
-use Prim.Native.Nat.{ℕ, ◌+◌, ◌-◌, ◌*◌, ◌≤◌, ◌<◌}
-use mathlib.Core.Path.{◌≡◌, refl, sym, ap, ◌∙◌}
-use mathlib.Core.Logic.{⊎_elim}
-use mathlib.Core.List.{List}
+use Prim.Native.Nat.{◌+◌, ◌-◌, ◌*◌, ◌≤◌}
+use mathlib.Core.Path.{◌≡◌}
 use lib.ListN.{length, take}
-use lib.Seq.{take-take}
 use Rattle.rows.specs.Sizes.{node_limit}
 use Rattle.entries.specs.Slots.{slot_size}
-use Rattle.trie_read.specs.Heads.{Inside}
-use Rattle.trie_read.specs.declared.head.Head.TheVariants.{Node}
-use Rattle.trie_read.proofs.Stretch.{length_part}
 use Rattle.gather.specs.KeySlots.{known}
-use Rattle.gather.proofs.Putting.{going_from, going_end, put_as, put_none}
-use Rattle.gather.proofs.Stepping.{entered_room}
 use Rattle.read_back.specs.Readings.{node_size, way_size}
 use Rattle.read_back.specs.Walks.{TrieRecords, BodyRecords}
-use Rattle.read_back.proofs.Splits.{below_end, below_bad, low_records}
-use Rattle.read_back.proofs.Turns.{Going, siblings_in, siblings_past}
+use Rattle.read_back.proofs.Turns.{Going}
 use Rattle.read_back.proofs.walk.+walk.Given as goal
 
 abbrev pub decreases-walk : goal.decreases-walk

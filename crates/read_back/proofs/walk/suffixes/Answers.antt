@@ -1,18 +1,15 @@
 -- Each turn writes the record of one suffix, or passes it (`Going`), and what is left is shorter.
 use native.Mathlib.Omega.{arith}
-use Prim.Native.Nat.{◌+◌, ◌*◌, ◌≤◌}
-use mathlib.Core.Path.{◌≡◌, refl, sym, ◌∙◌}
-use lib.ListN.{length, take}
+use Prim.Native.Nat.{◌*◌}
+use mathlib.Core.Path.{refl, sym, ◌∙◌}
+use lib.ListN.{length}
 use lib.Seq.{length-take-le}
-use Rattle.entries.specs.Slots.{slot_size}
 use Rattle.trie_read.specs.Suffixes.{Within}
 use Rattle.trie_read.specs.declared.suffixes.Tail.TheVariants.{At}
-use Rattle.gather.specs.KeySlots.{known}
 use Rattle.gather.proofs.Putting.{going_start, going_end}
 use Rattle.read_back.specs.Readings.{node_size}
-use Rattle.read_back.specs.Walks.{SuffixRecords}
 use Rattle.read_back.proofs.Splits.{records_end, records_bad}
-use Rattle.read_back.proofs.Turns.{Going, suffixes_put, suffixes_pass}
+use Rattle.read_back.proofs.Turns.{suffixes_put, suffixes_pass}
 use Rattle.read_back.proofs.walk.suffixes.Goals.{In-At, then-compose, else-compose}
 use Rattle.read_back.proofs.walk.suffixes.Goals as goal
 
@@ -56,7 +53,7 @@ loop-path-preserved c =
     let key = c.compose.auto.key ∙ l.invariant.1 in
     let ways = length-take-le (node_size * c.args.n) c.args.way.now (omega (arith, pre.way, pre.nodes)) in
     elim c.if-compose.branch [
-      then-compose y ↦ (
+      | then-compose y ↦ (
         omega arith,
         key,
         rw y.answer-is (y.put_record.auto.answer ∙ l.invariant.2),
