@@ -27,6 +27,9 @@ returns-then-n-t c = record { upper_bound = c.if-n-t.true; value = λ f n s w e.
 
 pub returns : goal.returns
 returns c =
- record { upper_bound = omega arith; value = λ f n s w e.
-      let r = has_root _ f n s w e (omega arith) (omega (arith, (read (goal.at.returns c).After-wide-2).body, c.if-body-eq0.false)) in
-      absurd (omega (arith, r, (read (goal.at.returns c).After-wide-2).end, c.if-n-t.false)) }
+    record {
+      upper_bound = omega arith;
+      value = λ f n s w e.
+          let r = has_root _ f n s w e (omega arith) (omega (arith, (read (goal.at.returns c).After-wide-2).body, c.if-body-eq0.false)) in
+          absurd (omega (arith, r, (read (goal.at.returns c).After-wide-2).end, c.if-n-t.false));
+    }

@@ -1,5 +1,5 @@
 use native.Mathlib.Omega.{arith}
-use Prim.Native.Nat.{ℕ, ◌-◌, ◌<◌}
+use Prim.Native.Nat.{◌-◌}
 use Rattle.store_overflow.proofs.FirstTries.{gathered_none, gathered_more}
 use Rattle.store_overflow.proofs.gathering.+gather_first.Goals as goal
 

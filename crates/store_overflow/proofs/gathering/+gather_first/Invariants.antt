@@ -1,7 +1,4 @@
 -- One trie behind those before it.
-use native.Mathlib.Omega.{arith}
-use Prim.Native.Nat.{ℕ, ◌-◌, ◌<◌}
-use Rattle.store_overflow.proofs.FirstTries.{gathered_none, gathered_more}
 use Rattle.store_overflow.proofs.gathering.+gather_first.Given as goal
 
 abbrev pub decreases-gather_first : goal.decreases-gather_first
