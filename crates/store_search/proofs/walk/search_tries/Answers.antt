@@ -1,7 +1,7 @@
 -- Each turn adds what is found in one trie (`searched_next`).
 use borrow.Author.Rules.{rules}
 use native.Mathlib.Omega.{arith}
-use Prim.Native.Nat.{ℕ, ◌+◌, ◌-◌, ◌≤◌}
+use Prim.Native.Nat.{ℕ, ◌+◌}
 use mathlib.Core.Path.{◌≡◌, subst}
 use Rattle.entries.specs.Query.{asked}
 use Rattle.store_search.specs.Listing.{TriesSearched}
