@@ -24,7 +24,6 @@ use Rattle.trie_read.specs.Shape.{part, Fixed}
 use Rattle.trie_read.specs.Heads.{head_of}
 use Rattle.trie_read.specs.Suffixes.{suffixes_bytes, tail_of}
 use Rattle.trie_read.specs.declared.head.Head.{Head}
-use Rattle.trie_read.specs.declared.head.Head.TheVariants as Head
 use Rattle.trie_read.specs.declared.suffixes.Tail.{Tail}
 use Rattle.trie_read.specs.declared.suffixes.Tail.TheVariants.{End, Bad, At}
 use Rattle.trie_read.proofs.Node.{leaf_view, inner_view, head_end, head_good, strings_are}

@@ -17,7 +17,6 @@ use Rattle.trie_read.specs.Shape.{part, Fixed}
 use Rattle.trie_read.specs.Heads.{head_of}
 use Rattle.trie_read.specs.Suffixes.{suffixes_bytes, tail_of}
 use Rattle.trie_read.specs.declared.head.Head.{Head}
-use Rattle.trie_read.specs.declared.head.Head.TheVariants as Head
 use Rattle.trie_read.specs.declared.suffixes.Tail.{Tail}
 use Rattle.trie_read.specs.declared.suffixes.Tail.TheVariants.{At}
 use Rattle.trie_read.proofs.Stretch.{length_part}

@@ -16,7 +16,7 @@ use Rattle.buffer.proofs.Splice.{length_region}
 use Rattle.buffer.proofs.Tests.{and_right, and_both, not_both}
 use Rattle.matcher.specs.Continued.{FirstBytes}
 use Rattle.rows.specs.Sizes.{value_size, path_at}
-use Rattle.trie_theory.specs.Forest.{Strings, Key, Forest, leaf, inner, join, under}
+use Rattle.trie_theory.specs.Forest.{Strings, Key, Forest, join, under}
 use Rattle.trie_theory.specs.Strings.{at}
 use Rattle.trie_theory.specs.Dimensions.{Above, below, branching}
 use Rattle.trie_theory.specs.Sound.{Node, Starts}
@@ -27,8 +27,6 @@ use Rattle.entries.specs.Query.{Query, reaches}
 use Rattle.trie_read.specs.Shape.{part}
 use Rattle.trie_read.specs.Heads.{head_of}
 use Rattle.trie_read.specs.declared.head.Head.{Head}
-use Rattle.trie_read.specs.declared.head.Head.TheVariants as Head
-use Rattle.trie_read.specs.declared.suffixes.Tail.TheVariants.{End, Bad}
 use Rattle.trie_read.proofs.Node.{leaf_view, inner_view, head_end, head_good, strings_are}
 use Rattle.trie_read.proofs.Walking.{same?}
 use Rattle.trie_read.proofs.Stretch.{length_part}

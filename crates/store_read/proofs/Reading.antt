@@ -1,7 +1,7 @@
 -- The records read are those of the trie. Assumes nothing.
 use mathlib.Core.Path.{◌≡◌, refl, sym, ap, ap₂, ◌∙◌}
 use mathlib.Core.Bool.{true}
-use Prim.Native.Nat.{ℕ, ◌+◌}
+use Prim.Native.Nat.{ℕ}
 use mathlib.Core.List.{List, [], ◌∷◌, ◌++◌, map}
 use Rattle.buffer.specs.Lists.{all}
 use Rattle.buffer.proofs.Tests.{and_left, and_right}

@@ -1,18 +1,12 @@
 -- Each turn puts the key of one suffix (`Going`), and what is left is shorter.
-use native.Mathlib.Omega.{arith}
 use Prim.Native.Nat.{◌+◌, ◌-◌, ◌≤◌}
-use mathlib.Core.Path.{◌≡◌, refl, sym, ◌∙◌}
-use mathlib.Core.Logic.{⊎_elim}
+use mathlib.Core.Path.{◌≡◌}
 use lib.ListN.{length}
 use Rattle.entries.specs.Slots.{slot_size}
 use Rattle.trie_read.specs.Shape.{part}
-use Rattle.trie_read.specs.Suffixes.{Within}
-use Rattle.trie_read.specs.declared.suffixes.Tail.TheVariants.{At}
-use Rattle.trie_read.proofs.Stretch.{length_part}
 use Rattle.gather.specs.KeySlots.{key_slot, known}
 use Rattle.gather.specs.Walks.{SuffixKeys}
-use Rattle.gather.proofs.Putting.{Going, going_start}
-use Rattle.gather.proofs.Stepping.{suffixes_end, suffixes_bad, suffixes_put, suffixes_pass}
+use Rattle.gather.proofs.Putting.{Going}
 use Rattle.gather.proofs.walk.suffixes.Given as goal
 
 abbrev pub invariant-loop-path : goal.invariant-loop-path

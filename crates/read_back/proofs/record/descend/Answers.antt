@@ -13,7 +13,7 @@ returns-then-enter c =
     let a = c.args in
     let entered = rw c.if-enter.true at c.enter.ensures in
     let room = entered_room entered refl in
-    descended entered (c.enter.auto.key ∙ c.requires.0.0) c.requires.1.0 c.requires.1.1 room.0 room.1 c.note.ensures
+    descended entered (c.enter.auto.key ∙ c.requires.key_len.0) c.requires.way_len.0 c.requires.way_len.1 room.0 room.1 c.note.ensures
 
 pub returns : goal.returns
 returns c = not_descended (rw c.if-enter.false at c.enter.ensures)

@@ -1,19 +1,12 @@
 -- Each turn writes the record of one suffix, or passes it (`Going`), and what is left is shorter.
-use native.Mathlib.Omega.{arith}
 use Prim.Native.Nat.{◌+◌, ◌*◌, ◌≤◌}
-use mathlib.Core.Path.{◌≡◌, refl, sym, ◌∙◌}
-use mathlib.Core.Logic.{⊎_elim}
+use mathlib.Core.Path.{◌≡◌}
 use lib.ListN.{length, take}
-use lib.Seq.{length-take-le}
 use Rattle.entries.specs.Slots.{slot_size}
-use Rattle.trie_read.specs.Suffixes.{Within}
-use Rattle.trie_read.specs.declared.suffixes.Tail.TheVariants.{At}
 use Rattle.gather.specs.KeySlots.{known}
-use Rattle.gather.proofs.Putting.{going_start, going_end}
 use Rattle.read_back.specs.Readings.{node_size}
 use Rattle.read_back.specs.Walks.{SuffixRecords}
-use Rattle.read_back.proofs.Splits.{records_end, records_bad}
-use Rattle.read_back.proofs.Turns.{Going, suffixes_put, suffixes_pass}
+use Rattle.read_back.proofs.Turns.{Going}
 use Rattle.read_back.proofs.walk.suffixes.Given as goal
 
 abbrev pub invariant-loop-path : goal.invariant-loop-path

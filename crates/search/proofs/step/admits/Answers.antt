@@ -28,13 +28,16 @@ returns-then-kind-eq-VALUE_KIND c =
     let pre = c.requires in
     let is = c.if-kind-eq-VALUE_KIND.true in
     let z : a.v - 0 ≡ a.v = omega arith in
-    let value = (rw z at (c.value_more-value.ensures a.pattern.now)) (λ short. pre.1.1.bytes is (omega (arith, short, length-take-le a.v a.key.now (omega (arith, pre.1.0))))) in
+    let value = (rw z at (c.value_more-value.ensures a.pattern.now)) (λ short. pre.in_common.bytes is (omega (arith, short, length-take-le a.v a.key.now (omega (arith, pre.key_len))))) in
     let other : FirstBytes (region a.key.now path_at a.p) → a.common.other ≡ reach_of a.pattern.now (region a.key.now path_at a.p) =
-    λ f. rw (eq-eqb a.kind 1 is) at (pre.1.1.other c.if-kind-eq-ROOT.false (λ o. f)) in record { value = (λ f. c.goes_on.ensures
+    λ f. rw (eq-eqb a.kind 1 is) at (pre.in_common.other c.if-kind-eq-ROOT.false (λ o. f)) in record {
+      value = (λ f. c.goes_on.ensures
           ∙ ap goes_on c.both.ensures
           ∙ both_goes c.value_more-value.result a.common.other
           ∙ ap₂ (λ (x y : Answer). goes_on x && goes_on y) value (other (first_before (region a.key.now path_at a.p) _ f))
-          ∙ enters_value (asked a.pattern.now a.low a.high) a.kind a.v a.p a.key.now (part 7 a.path a.t.now) (part a.path a.body a.t.now) is); key_unchanged = refl }
+          ∙ enters_value (asked a.pattern.now a.low a.high) a.kind a.v a.p a.key.now (part 7 a.path a.t.now) (part a.path a.body a.t.now) is);
+      key_unchanged = refl;
+    }
 
 pub returns : goal.returns
 returns c =
@@ -43,10 +46,13 @@ returns c =
     let g = c.ask_path in
     let end = c.one_more-end in
     let branches = c.if-kind-eq-VALUE_KIND.false in
-    let other = rw (ne_eqb a.kind 1 branches) at (pre.1.1.other c.if-kind-eq-ROOT.false (λ o. absurd (branches o))) in
+    let other = rw (ne_eqb a.kind 1 branches) at (pre.in_common.other c.if-kind-eq-ROOT.false (λ o. absurd (branches o))) in
     let less : FirstBytes (region a.key.now path_at a.p ++ part a.path a.body a.t.now) → FirstBytes (region a.key.now path_at a.p ++ part a.path end.result a.t.now) =
-    λ f. first_less (region a.key.now path_at a.p) a.t.now a.path end.result a.body end.ensures.1 end.ensures.2 f in record { value = (λ f. c.goes_on-2.ensures
+    λ f. first_less (region a.key.now path_at a.p) a.t.now a.path end.result a.body end.ensures.1 end.ensures.2 f in record {
+      value = (λ f. c.goes_on-2.ensures
           ∙ ap goes_on (g.ensures.value (less f))
           ∙ both_goes a.common.other (reach_of a.pattern.now (region a.key.now path_at a.p ++ part a.path end.result a.t.now))
           ∙ ap (λ (x : Answer). goes_on x && goes_on (reach_of a.pattern.now (region a.key.now path_at a.p ++ part a.path end.result a.t.now))) other
-          ∙ enters_path (asked a.pattern.now a.low a.high) a.kind a.v a.p a.key.now (part 7 a.path a.t.now) a.t.now a.path a.body end.result pre.1.0.6 c.if-kind-eq-VALUE_KIND.false c.if-kind-eq-ROOT.false pre.1.0.4 end.ensures.0); key_unchanged = known_front a.v a.p a.key.now _ pre.1.0.0 (g.auto.key ∙ pre.1.0.0) pre.1.0.1 g.ensures.key_unchanged }
+          ∙ enters_path (asked a.pattern.now a.low a.high) a.kind a.v a.p a.key.now (part 7 a.path a.t.now) a.t.now a.path a.body end.result pre.key_len.6 c.if-kind-eq-VALUE_KIND.false c.if-kind-eq-ROOT.false pre.key_len.4 end.ensures.0);
+      key_unchanged = known_front a.v a.p a.key.now _ pre.key_len.0 (g.auto.key ∙ pre.key_len.0) pre.key_len.1 g.ensures.key_unchanged;
+    }

@@ -30,13 +30,13 @@ returns-then-kind-eq-VALUE_KIND c =
     let one = c.if-kind-eq-VALUE_KIND.true in
     let path : path_at + a.p - path_at ≡ a.p = omega arith in
     let spans : a.v < value_size → Spans q (take a.v a.key.now) 1 bytes.result.from bytes.result.to =
-    λ short. (rw (from_start a.v) at (bytes.ensures a.pattern.now)) (omega (arith, length-take-le a.v a.key.now (omega (arith, pre.1)))) in
+    λ short. (rw (from_start a.v) at (bytes.ensures a.pattern.now)) (omega (arith, length-take-le a.v a.key.now (omega (arith, pre.key_len)))) in
     record {
       bytes = λ k short. spans short;
-      other = λ z f. rw (eq-eqb a.kind 1 one) (c.reach_from-other.ensures pre.0.0 pre.0.1 (rw path (f one)) ∙ ap (λ (n : ℕ). reach_of a.pattern.now (take n (drop path_at a.key.now))) path);
+      other = λ z f. rw (eq-eqb a.kind 1 one) (c.reach_from-other.ensures pre.pattern_value.0 pre.pattern_value.1 (rw path (f one)) ∙ ap (λ (n : ℕ). reach_of a.pattern.now (take n (drop path_at a.key.now))) path);
       single = λ y.
           let same : bytes.result.to ≡ bytes.result.from = sym (eqb-true bytes.result.from bytes.result.to y) in
-          value_byte a.pattern.now a.low a.high a.v a.p bytes.result.from a.key.now pre.1.0 pre.1.1 (λ short. rw same at (spans short)) a.kind one;
+          value_byte a.pattern.now a.low a.high a.v a.p bytes.result.from a.key.now pre.key_len.0 pre.key_len.1 (λ short. rw same at (spans short)) a.kind one;
     }
 
 pub returns : goal.returns
@@ -49,5 +49,5 @@ returns c =
       bytes = λ k short. absurd (one k);
       other = λ z f. rw (ne_eqb a.kind 1 one) (r.0 ∙ c.value_reach-other.ensures a.pattern.now ∙ ap (λ (n : ℕ). value_reach (asked a.pattern.now a.low a.high) (take n a.key.now)) (from_start a.v));
       single = λ y.
-          path_byte a.pattern.now a.low a.high a.v a.p _ a.key.now pre.1.0 pre.1.2 pre.0.1 (c.one_leads.ensures a.pattern.now) (sym r.1 ∙ y) refl a.kind pre.1.3 one c.if-kind-eq-ROOT.false;
+          path_byte a.pattern.now a.low a.high a.v a.p _ a.key.now pre.key_len.0 pre.key_len.2 pre.pattern_value.1 (c.one_leads.ensures a.pattern.now) (sym r.1 ∙ y) refl a.kind pre.key_len.3 one c.if-kind-eq-ROOT.false;
     }

@@ -11,11 +11,11 @@ pub returns-then-ruled_out : goal.returns-then-ruled_out
 returns-then-ruled_out c =
     let a = c.args in
     let pre = c.requires in
-    record { value = (λ f. sym (c.ruled_out.ensures.mismatch pre.0.1 c.if-ruled_out.true (region a.key.now path_at a.p) (length_region a.key.now path_at a.p (omega (arith, pre.1))))); key_unchanged = refl }
+    record { value = (λ f. sym (c.ruled_out.ensures.mismatch pre.pattern_value.1 c.if-ruled_out.true (region a.key.now path_at a.p) (length_region a.key.now path_at a.p (omega (arith, pre.key_len))))); key_unchanged = refl }
 
 pub returns : goal.returns
 returns c =
     let a = c.args in
-    let pre = c.requires.1 in
+    let pre = c.requires.key_len in
     let w = c.path_with.ensures in
     record { value = w.value; key_unchanged = front_kept a.key.now _ a.s.now a.p pre.0 pre.1 w.key_after }

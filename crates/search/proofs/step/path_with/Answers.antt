@@ -9,5 +9,5 @@ returns c =
     let a = c.args in
     let pre = c.requires in
     let w = c.copy_from.ensures in
-    let more = path_more a.key.now _ a.s.now a.p pre.1.0 pre.1.1 w in
-    record { value = (λ f. c.reach_from.ensures pre.0.0 pre.0.1 (rw more f) ∙ ap (reach_of a.pattern.now) more); key_after = w }
+    let more = path_more a.key.now _ a.s.now a.p pre.key_len.0 pre.key_len.1 w in
+    record { value = (λ f. c.reach_from.ensures pre.pattern_value.0 pre.pattern_value.1 (rw more f) ∙ ap (reach_of a.pattern.now) more); key_after = w }

@@ -18,21 +18,21 @@ of_rest v path e s = rw e s
 pub returns-then-v-path-ne-VALUE_SIZE : goal.returns-then-v-path-ne-VALUE_SIZE
 returns-then-v-path-ne-VALUE_SIZE c =
     let a = c.args in
-    let pre = c.requires.1 in
+    let pre = c.requires.key_len in
     λ low high l. taken_none (asked a.pattern.now low high) a.v a.p a.b.now a.path a.next a.key.now pre.0 pre.1 pre.2 pre.4 pre.5
     (λ e m. c.if-v-path-ne-VALUE_SIZE.true e)
 
 pub returns-then-p-next-gt-ENDED_LIMIT : goal.returns-then-p-next-gt-ENDED_LIMIT
 returns-then-p-next-gt-ENDED_LIMIT c =
     let a = c.args in
-    let pre = c.requires.1 in
+    let pre = c.requires.key_len in
     λ low high l. taken_none (asked a.pattern.now low high) a.v a.p a.b.now a.path a.next a.key.now pre.0 pre.1 pre.2 pre.4 pre.5
     (λ e m. omega (arith, m, c.if-p-next-gt-ENDED_LIMIT.true))
 
 pub returns-then-is_match : goal.returns-then-is_match
 returns-then-is_match c =
     let a = c.args in
-    let pre = c.requires.1 in
+    let pre = c.requires.key_len in
     let m = c.ask_path in
     λ low high l.
     let q = asked a.pattern.now low high in
@@ -43,7 +43,7 @@ returns-then-is_match c =
 pub returns : goal.returns
 returns c =
     let a = c.args in
-    let pre = c.requires.1 in
+    let pre = c.requires.key_len in
     let m = c.ask_path in
     λ low high l.
     let q = asked a.pattern.now low high in

@@ -7,6 +7,10 @@ use Rattle.store.proofs.extent.trie_length.Goals.{After-wide-2}
 use Rattle.store.proofs.extent.trie_length.Goals as goal
 
 -- what is read is the root's
+record Read (c : After-wide-2) : Type 0 where
+  end : 7 + c.wide.result + c.wide-2.result + c.wide32-body.result ≡ ends c.args.t.now
+  body : c.wide32-body.result ≡ body_at c.args.t.now
+
 read : (c : After-wide-2) → Read c
 read c =
     let b = c.wide32-body.ensures.0 ∙ c.get32.ensures in
@@ -23,6 +27,9 @@ returns-then-n-t c = record { upper_bound = c.if-n-t.true; value = λ f n s w e.
 
 pub returns : goal.returns
 returns c =
- record { upper_bound = omega arith; value = λ f n s w e.
-      let r = has_root _ f n s w e (omega arith) (omega (arith, (read (goal.at.returns c).After-wide-2).body, c.if-body-eq0.false)) in
-      absurd (omega (arith, r, (read (goal.at.returns c).After-wide-2).end, c.if-n-t.false)) }
+    record {
+      upper_bound = omega arith;
+      value = λ f n s w e.
+          let r = has_root _ f n s w e (omega arith) (omega (arith, (read (goal.at.returns c).After-wide-2).body, c.if-body-eq0.false)) in
+          absurd (omega (arith, r, (read (goal.at.returns c).After-wide-2).end, c.if-n-t.false));
+    }

@@ -1,7 +1,7 @@
 -- Doubled at each turn.
 use borrow.Author.Rules.{rules}
 use mathlib.Core.Path.{◌≡◌, refl, sym, ap, ◌∙◌}
-use Prim.Native.Nat.{ℕ, ◌-◌, ◌*◌, ◌^◌, ◌≤◌}
+use Prim.Native.Nat.{ℕ, ◌*◌, ◌^◌}
 use native.Mathlib.Omega.{arith}
 use Rattle.store.proofs.Powers.{power_next, power_most}
 use Rattle.store.proofs.front.power.Goals as goal

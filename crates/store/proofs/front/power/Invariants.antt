@@ -1,9 +1,6 @@
 -- Doubled at each turn.
-use borrow.Author.Rules.{rules}
-use mathlib.Core.Path.{◌≡◌, refl, sym, ap, ◌∙◌}
-use Prim.Native.Nat.{ℕ, ◌-◌, ◌*◌, ◌^◌, ◌≤◌}
-use native.Mathlib.Omega.{arith}
-use Rattle.store.proofs.Powers.{power_next, power_most}
+use mathlib.Core.Path.{◌≡◌}
+use Prim.Native.Nat.{◌-◌, ◌^◌, ◌≤◌}
 use Rattle.store.proofs.front.power.Given as goal
 
 abbrev pub invariant-loop-i : goal.invariant-loop-i

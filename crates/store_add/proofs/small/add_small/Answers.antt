@@ -13,7 +13,7 @@ returns-then-used-value c =
     let h = c.add in
     let n : front_room + entry_room * c.args.m - front_room ≡ entry_room * c.args.m = omega arith in
     let l : length h.new.s ≡ entry_room * c.args.m = h.auto.s ∙ c.add-arg-1.given.2 ∙ n in
-    grows c.args.m c.args.used _ c.args.store.now c.requires.0.1 h.new.s h.result l (rw n at h.ensures) _ (splice_part _ _ _ _ (l ∙ sym n))
+    grows c.args.m c.args.used _ c.args.store.now c.requires.m_le_m_limit.1 h.new.s h.result l (rw n at h.ensures) _ (splice_part _ _ _ _ (l ∙ sym n))
 
 pub returns-else-used-value : goal.returns-else-used-value
-returns-else-used-value c = stays c.args.m c.args.used _ c.args.store.now c.requires.0.1 (omega (arith, c.if-used-value.false))
+returns-else-used-value c = stays c.args.m c.args.used _ c.args.store.now c.requires.m_le_m_limit.1 (omega (arith, c.if-used-value.false))

@@ -1,7 +1,6 @@
 -- One digit at each turn.
 use borrow.Author.Rules.{rules}
-use Prim.Native.Nat.{◌-◌, ◌/◌}
-use Rattle.store_overflow.proofs.Halving.{Halved, whole, halved, stopped, none_empty}
+use Rattle.store_overflow.proofs.Halving.{whole, halved, stopped, none_empty}
 use Rattle.store_overflow.proofs.digits.first_empty.Goals as goal
 
 pub loop-j-init : goal.loop-j-init

@@ -1,11 +1,7 @@
 -- Each turn adds what is found in one trie (`searched_next`).
-use borrow.Author.Rules.{rules}
-use native.Mathlib.Omega.{arith}
-use Prim.Native.Nat.{ℕ, ◌+◌, ◌-◌, ◌≤◌}
-use mathlib.Core.Path.{◌≡◌, subst}
+use Prim.Native.Nat.{◌+◌, ◌-◌, ◌≤◌}
 use Rattle.entries.specs.Query.{asked}
 use Rattle.store_search.specs.Listing.{TriesSearched}
-use Rattle.store_search.proofs.Found.{part_few, searched_none, searched_next}
 use Rattle.store_search.proofs.walk.search_tries.Given as goal
 
 abbrev pub invariant-loop-k : goal.invariant-loop-k
