@@ -1,7 +1,7 @@
 #!/usr/bin/env python3
 """Times single calls of the compiled matcher, through the program matcher_vectors.
 
-Run at the root of the repository, after `rt check`:  python3 bench/matcher/bench.py
+Run at the root of the repository, after `rt run` in crates/matcher_vectors:  python3 bench/matcher/bench.py
 
 Each case is a line of input, repeated; the time of lines of the same length whose case is trivial is taken away,
 so that reading, decoding and printing do not count. The least processor time of many runs is printed, in microseconds
@@ -11,7 +11,7 @@ import resource
 import subprocess
 import tempfile
 
-PROGRAM = "target/bin/matcher_vectors"
+PROGRAM = "crates/matcher_vectors/out/matcher_vectors"
 RUNS = 100
 
 CASES = [
