@@ -1,9 +1,5 @@
 -- None of the first k tries has it.
 use native.Mathlib.Omega.{arith}
-use mathlib.Core.Bool.{false}
-use Prim.Native.Nat.{◌+◌, ◌-◌, ◌≤◌}
-use Rattle.trie_read.specs.Shape.{key_of}
-use Rattle.store_add.specs.Placed.{InFirst}
 use Rattle.store_add.proofs.Looking.{looked_none, looked_next, looked_found, looked_all}
 use Rattle.store_add.proofs.lookup.has_entry.Goals as goal
 

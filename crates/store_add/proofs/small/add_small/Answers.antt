@@ -12,7 +12,7 @@ pub returns-then-used-value : goal.returns-then-used-value
 returns-then-used-value c =
     let h = c.add in
     let n : front_room + entry_room * c.args.m - front_room ≡ entry_room * c.args.m = omega arith in
-    let l : length h.new.s ≡ entry_room * c.args.m = h.auto.s ∙ c.add-arg-1.given.2 ∙ n in
+    let l : length h.new.s ≡ entry_room * c.args.m = omega arith in
     grows c.args.m c.args.used _ c.args.store.now c.requires.m_le_m_limit.1 h.new.s h.result l (rw n at h.ensures) _ (splice_part _ _ _ _ (l ∙ sym n))
 
 pub returns-else-used-value : goal.returns-else-used-value
