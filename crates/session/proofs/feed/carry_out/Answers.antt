@@ -4,7 +4,7 @@ use Rattle.session.proofs.Feeding.{ran_none, ran_one}
 use Rattle.session.proofs.feed.carry_out.Goals as goal
 
 pub slice_bounds-run_line-end : goal.slice_bounds-run_line-end
-slice_bounds-run_line-end c = rw c.in-Line.is at c.requires.0
+slice_bounds-run_line-end c = rw c.in-Line.is at c.requires.within
 
 pub returns-in-Nothing : goal.returns-in-Nothing
 returns-in-Nothing c = rw c.in-Nothing.is ran_none
