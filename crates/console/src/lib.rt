@@ -1,5 +1,5 @@
-// Standard input and output of the programs. After a read or a write that failed nothing more is read or written, and `finish`
-// returns that failure for `main` to return.
+// Standard input and output of the programs. A read that failed is the end of the input, after a write that failed nothing more is written, and
+// `finish` returns the failure for `main` to return.
 #![tactic(auto)]
 
 ghost use Rattle.std.specs.Prelude.{◌≤◌, length};
@@ -11,7 +11,8 @@ use std::io::{Read, Stdin, Stdout, Write};
 pub struct Console {
     input: Stdin,
     output: Stdout,
-    outcome: io::Result<()>,
+    reads: io::Result<()>,
+    writes: io::Result<()>,
 }
 
 impl Console {
@@ -19,27 +20,28 @@ impl Console {
         Console {
             input,
             output,
-            outcome: Ok(()),
+            reads: Ok(()),
+            writes: Ok(()),
         }
     }
 
     // Writes all the bytes.
     pub fn print(&mut self, bytes: &[u8]) {
-        if self.outcome.is_ok() {
-            self.outcome = self.output.write_all(bytes);
+        if self.writes.is_ok() {
+            self.writes = self.output.write_all(bytes);
         }
     }
 
     pub fn print_decimal(&mut self, n: u64) {
-        if self.outcome.is_ok() {
-            self.outcome = write!(self.output, "{n}");
+        if self.writes.is_ok() {
+            self.writes = write!(self.output, "{n}");
         }
     }
 
     // Two hex digits.
     pub fn print_hex(&mut self, b: u8) {
-        if self.outcome.is_ok() {
-            self.outcome = write!(self.output, "{b:02x}");
+        if self.writes.is_ok() {
+            self.writes = write!(self.output, "{b:02x}");
         }
     }
 
@@ -47,13 +49,13 @@ impl Console {
     pub fn read(&mut self, buf: &mut [u8]) -> usize
         ensures { result ≤ length buf.new }
     {
-        if self.outcome.is_err() {
+        if self.reads.is_err() {
             return 0;
         }
         match self.input.read(buf) {
             Ok(n) => n,
             Err(e) => {
-                self.outcome = Err(e);
+                self.reads = Err(e);
                 0
             }
         }
@@ -75,6 +77,7 @@ impl Console {
     }
 
     pub fn finish(self) -> io::Result<()> {
-        self.outcome
+        self.writes?;
+        self.reads
     }
 }
