@@ -12,7 +12,7 @@ use Rattle.rows.specs.Entry.{Entry}
 use Rattle.entries.specs.Query.{Query}
 use Rattle.book.specs.Front.{front_size, front_of, in_limits, need, capacity, no_store}
 use Rattle.book.specs.Book.{Book, Sound, front, blank}
-use Rattle.book.specs.Replies.{Result, result, reply, setup_number, add_number, search_number}
+use Rattle.book.specs.Replies.{Result, setup_number, add_number, search_number}
 use Rattle.book.specs.Calls.{Call, lent, typed}
 use Rattle.book.specs.Step.{step}
 use Rattle.book.specs.Promises.{Promise}

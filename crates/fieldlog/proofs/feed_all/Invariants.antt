@@ -2,12 +2,10 @@
 use Prim.Native.Nat.{◌≤◌, ◌-◌}
 use mathlib.Core.Path.{◌≡◌}
 use lib.ListN.{length}
-use native.Mathlib.Omega.{arith}
 use Rattle.logline.specs.Sizes.{line_limit}
 use Rattle.session.specs.Sizes.{store_size, answer_size, print_limit}
 use Rattle.session.specs.Keeps.{state}
 use Rattle.session.specs.Whole.{FedSome}
-use Rattle.session.proofs.Whole.{some_none, some_more}
 use Rattle.fieldlog.proofs.feed_all.Given as goal
 
 abbrev pub invariant-loop-reads : goal.invariant-loop-reads

@@ -1,16 +1,11 @@
 -- The bytes of the chunk are fed in turn, and each buffer keeps its length.
-use Prim.Native.Nat.{◌+◌, ◌-◌, ◌≤◌}
+use Prim.Native.Nat.{◌-◌, ◌≤◌}
 use mathlib.Core.Path.{◌≡◌}
-use mathlib.Core.List.{[], ◌∷◌, ◌++◌}
-use native.Mathlib.Numerals.{add-one}
-use native.Mathlib.Omega.{arith}
-use lib.ListN.{length, take, get_or}
-use lib.Seq.{take-suc, take_all}
+use lib.ListN.{length, take}
 use Rattle.logline.specs.Sizes.{line_limit}
 use Rattle.session.specs.Sizes.{store_size, answer_size, print_limit}
 use Rattle.session.specs.Keeps.{state}
 use Rattle.session.specs.Whole.{FedBytes}
-use Rattle.session.proofs.Whole.{fed_none, fed_more}
 use Rattle.fieldlog.proofs.feed_chunk.Given as goal
 
 abbrev pub invariant-loop-i : goal.invariant-loop-i

@@ -9,7 +9,6 @@ fed_from {after = after} e f = subst (λ (s : State). FedSome s after) e f
 
 pub returns : goal.returns
 returns c =
-    let pre = c.requires in
     let fed = c.feed_all-len.ensures in
     let ended = c.feed_end.ensures in
-    (ended.upper_bound, record { last = _; fed = fed_from pre.1 fed; ends = ended.fed_end })
+    (ended.upper_bound, record { last = _; fed = fed_from c.requires.store_value fed; ends = ended.fed_end })

@@ -1,17 +1,13 @@
 -- One row after another, each where the last one ended.
-use mathlib.Core.Path.{◌≡◌, refl}
+use mathlib.Core.Path.{◌≡◌}
 use mathlib.Core.List.{map}
-use Prim.Native.Nat.{◌+◌, ◌-◌, ◌*◌, ◌≤◌}
-use native.Mathlib.Omega.{arith}
+use Prim.Native.Nat.{◌-◌, ◌*◌, ◌≤◌}
 use lib.ListN.{length}
 use Rattle.buffer.specs.Lists.{flat}
 use Rattle.rows.specs.Sizes.{row_size}
 use Rattle.rows.specs.Records.{records}
-use Rattle.buffer.specs.Splice.{region}
-use Rattle.buffer.proofs.Splice.{length_region}
 use Rattle.logline.specs.Sizes.{row_line_limit}
 use Rattle.logline.specs.Spelling.{row_line, Wrote}
-use Rattle.session.proofs.Printing.{print_none, print_more, row_line_length}
 use Rattle.session.proofs.print.print_rows.Given as goal
 
 abbrev pub invariant-loop-i : goal.invariant-loop-i
