@@ -126,11 +126,11 @@ pub some_labels : (s : List ℕ) → (length s ≡ 0 → ⊥) → Begun s → no
 some_labels [] f b = absurd (f refl)
 some_labels (c ∷ s) f b = rw (eq-eqb c slash (b f))
 
-pub deep_law : (p : List ℕ) (a : ℕ) → Cut p a → deep (front p a) ≡ true → fit_labels (labels_of p) ≡ after_some (fit_labels (labels_of (back p a)))
-deep_law p a h e = ap fit_labels h.labels ∙ fit_wild deep fits_label (front p a) (labels_of (back p a)) e
-
 pub one_law : (p : List ℕ) (a : ℕ) → Cut p a → deep (front p a) ≡ false → fit_labels (labels_of p) ≡ first (fits_label (front p a)) (fit_labels (labels_of (back p a)))
 one_law p a h e = ap fit_labels h.labels ∙ fit_one deep fits_label (front p a) (labels_of (back p a)) e
+
+pub deep_law : (p : List ℕ) (a : ℕ) → Cut p a → deep (front p a) ≡ true → fit_labels (labels_of p) ≡ after_some (fit_labels (labels_of (back p a)))
+deep_law p a h e = ap fit_labels h.labels ∙ fit_wild deep fits_label (front p a) (labels_of (back p a)) e
 
 -- without their first labels both are shorter
 pub cut_falls : (p s : List ℕ) (a b : ℕ) → Cut p a → Cut s b → 2 * (length (back p a) + length (back s b)) < 2 * (length p + length s)
