@@ -6,6 +6,7 @@ ghost use Rattle.buffer.specs.Numbers.{bytes_of, number};
 use crate::moves::copy_from;
 
 // The number in the 4 bytes from `at` on.
+#[tactic(auto, using(crate::proofs::Digits::four_read))]
 pub fn get32(s: &[u8], at: usize) -> u32
     requires { at + 4 ≤ length s.now }
     ensures { result ≡ number (region s.now at 4) }
@@ -15,6 +16,7 @@ pub fn get32(s: &[u8], at: usize) -> u32
 }
 
 // The number in the 8 bytes from `at` on.
+#[tactic(auto, using(crate::proofs::Digits::eight_read))]
 pub fn get64(s: &[u8], at: usize) -> u64
     requires { at + 8 ≤ length s.now }
     ensures { result ≡ number (region s.now at 8) }
@@ -24,6 +26,7 @@ pub fn get64(s: &[u8], at: usize) -> u64
 }
 
 // Writes `x` in 4 bytes from `at` on.
+#[tactic(auto, using(crate::proofs::Digits::four_written))]
 pub fn put32(s: &mut [u8], at: usize, x: u32)
     requires { at + 4 ≤ length s.old }
     ensures { s.new ≡ splice s.old at (bytes_of 4 x) }
@@ -32,6 +35,7 @@ pub fn put32(s: &mut [u8], at: usize, x: u32)
 }
 
 // Writes `x` in 8 bytes from `at` on.
+#[tactic(auto, using(crate::proofs::Digits::eight_written))]
 pub fn put64(s: &mut [u8], at: usize, x: u64)
     requires { at + 8 ≤ length s.old }
     ensures { s.new ≡ splice s.old at (bytes_of 8 x) }
