@@ -44,6 +44,14 @@ struct Entry<'a> {
     ghost short: { length path.now ≤ path_limit },
 }
 
+impl<'a> Entry<'a> {
+    fn new(value: u64, path: &'a [u8], mark: u8) -> Entry<'a>
+        requires { length path.now ≤ path_limit }
+    {
+        Entry { value, path, mark }
+    }
+}
+
 // Writes the row of an entry.
 fn put(s: &mut [u8], entry: Entry<'_>)
     requires { row_size ≤ length s.old }
@@ -68,11 +76,11 @@ fn generate(record: &mut [u8], random: Random)
     record.fill(0);
     put(
         record,
-        Entry {
-            value: random.x / 4194304 % 5,
-            path: &path[..end],
-            mark: (random.x / 33554432 % 3) as u8,
-        },
+        Entry::new(
+            random.x / 4194304 % 5,
+            &path[..end],
+            (random.x / 33554432 % 3) as u8,
+        ),
     );
     if ROW_SIZE < record.len() {
         record[ROW_SIZE] = (random.x / 65536 % 251) as u8;
@@ -172,20 +180,14 @@ fn compare_case(console: &mut Console, a: Entry<'_>, b: Entry<'_>) {
     print_record(console, &y);
 }
 
-fn entry<'a>(value: u64, path: &'a [u8], mark: u8) -> Entry<'a>
-    requires { length path.now ≤ path_limit }
-{
-    Entry { value, path, mark }
-}
-
 fn main(rt: HostRuntime) -> io::Result<()> {
     let mut console = Console::new(rt.stdin(), rt.stdout());
-    compare_case(&mut console, entry(7, b"/a", 9), entry(7, b"/a/b", 1));
-    compare_case(&mut console, entry(7, b"/a/b", 1), entry(7, b"/a", 9));
-    compare_case(&mut console, entry(7, b"/b", 0), entry(7, b"/a/b", 0));
-    compare_case(&mut console, entry(1, b"/z", 9), entry(256, b"/a", 0));
-    compare_case(&mut console, entry(5, b"/a", 2), entry(5, b"/a", 1));
-    compare_case(&mut console, entry(5, b"/a", 2), entry(5, b"/a", 2));
+    compare_case(&mut console, Entry::new(7, b"/a", 9), Entry::new(7, b"/a/b", 1));
+    compare_case(&mut console, Entry::new(7, b"/a/b", 1), Entry::new(7, b"/a", 9));
+    compare_case(&mut console, Entry::new(7, b"/b", 0), Entry::new(7, b"/a/b", 0));
+    compare_case(&mut console, Entry::new(1, b"/z", 9), Entry::new(256, b"/a", 0));
+    compare_case(&mut console, Entry::new(5, b"/a", 2), Entry::new(5, b"/a", 1));
+    compare_case(&mut console, Entry::new(5, b"/a", 2), Entry::new(5, b"/a", 2));
     sort_case(&mut console, 0, ROW_SIZE);
     sort_case(&mut console, 1, ROW_SIZE);
     sort_case(&mut console, 2, ROW_SIZE);
