@@ -31,7 +31,11 @@ impl Random {
     fn letter(self, divisor: u64) -> u8
         requires { 0 < divisor }
     {
-        if self.x / divisor % 2 == 0 { b'a' } else { b'b' }
+        if self.x / divisor % 2 == 0 {
+            b'a'
+        } else {
+            b'b'
+        }
     }
 }
 
@@ -182,12 +186,36 @@ fn compare_case(console: &mut Console, a: Entry<'_>, b: Entry<'_>) {
 
 fn main(rt: HostRuntime) -> io::Result<()> {
     let mut console = Console::new(rt.stdin(), rt.stdout());
-    compare_case(&mut console, Entry::new(7, b"/a", 9), Entry::new(7, b"/a/b", 1));
-    compare_case(&mut console, Entry::new(7, b"/a/b", 1), Entry::new(7, b"/a", 9));
-    compare_case(&mut console, Entry::new(7, b"/b", 0), Entry::new(7, b"/a/b", 0));
-    compare_case(&mut console, Entry::new(1, b"/z", 9), Entry::new(256, b"/a", 0));
-    compare_case(&mut console, Entry::new(5, b"/a", 2), Entry::new(5, b"/a", 1));
-    compare_case(&mut console, Entry::new(5, b"/a", 2), Entry::new(5, b"/a", 2));
+    compare_case(
+        &mut console,
+        Entry::new(7, b"/a", 9),
+        Entry::new(7, b"/a/b", 1),
+    );
+    compare_case(
+        &mut console,
+        Entry::new(7, b"/a/b", 1),
+        Entry::new(7, b"/a", 9),
+    );
+    compare_case(
+        &mut console,
+        Entry::new(7, b"/b", 0),
+        Entry::new(7, b"/a/b", 0),
+    );
+    compare_case(
+        &mut console,
+        Entry::new(1, b"/z", 9),
+        Entry::new(256, b"/a", 0),
+    );
+    compare_case(
+        &mut console,
+        Entry::new(5, b"/a", 2),
+        Entry::new(5, b"/a", 1),
+    );
+    compare_case(
+        &mut console,
+        Entry::new(5, b"/a", 2),
+        Entry::new(5, b"/a", 2),
+    );
     sort_case(&mut console, 0, ROW_SIZE);
     sort_case(&mut console, 1, ROW_SIZE);
     sort_case(&mut console, 2, ROW_SIZE);
