@@ -8,7 +8,7 @@ ghost use Rattle.glob.specs.Fit.{after_some, first, fits_label, fit_labels, fits
 ghost use Rattle.glob.specs.Inner.{Says, is_fit, Alike, Skipped, OffLabel, OffLabels, Begun, Single, AlikeLabels};
 
 use crate::bytes::{SLASH, STAR};
-use crate::split::{is_deep, last_label, next_slash};
+use crate::split::{bytes_before, is_deep, last_label, next_slash};
 
 // `Never`: it fails now, and also once any of the first bytes (or labels) are taken away.
 #[derive(Clone, Copy)]
@@ -18,13 +18,11 @@ pub(crate) enum Trial {
     Never,
 }
 
-fn is_fit(r: Trial) -> bool
-    ensures { result ≡ is_fit r }
-{
-    match r {
-        Trial::Fits => true,
-        Trial::Fails => false,
-        Trial::Never => false,
+impl Trial {
+    fn is_fit(self) -> bool
+        ensures { result ≡ is_fit self }
+    {
+        matches!(self, Trial::Fits)
     }
 }
 
@@ -32,20 +30,13 @@ fn is_fit(r: Trial) -> bool
 fn alike(p: &[u8], s: &[u8]) -> usize
     ensures { Alike p.now s.now result }
 {
-    let mut i = 0;
-    while i < p.len() {
-        if p[i] == STAR {
+    let n = p.len().min(s.len());
+    for i in 0..n {
+        if p[i] == STAR || p[i] != s[i] {
             return i;
         }
-        if s.len() <= i {
-            return i;
-        }
-        if p[i] != s[i] {
-            return i;
-        }
-        i += 1;
     }
-    i
+    n
 }
 
 // The next place, from one on, at which the rest of a label may fit a label of a pattern: it begins with the same byte, or the pattern with
@@ -55,15 +46,12 @@ fn next_try(p: &[u8], s: &[u8], from: usize) -> usize
     ensures { Skipped (OffLabel p.now s.now) (length s.now) from result }
 {
     let c = p[0];
-    if c == STAR {
+    if c == STAR || s.len() <= from {
         return from;
     }
-    let mut i = from;
-    while i < s.len() {
-        if s[i] == c {
-            return i;
-        }
-        i += 1;
+    let i = from + bytes_before(&s[from..], c);
+    if i < s.len() {
+        return i;
     }
     s.len() + 1
 }
@@ -73,23 +61,17 @@ fn next_try(p: &[u8], s: &[u8], from: usize) -> usize
 fn label(p: &[u8], s: &[u8]) -> Trial
     ensures { Says (fits_label p.now) s.now result }
 {
-    if p.len() == 0 {
-        if s.len() == 0 {
-            return Trial::Fits;
+    match (p.first(), s.first()) {
+        (None, None) => Trial::Fits,
+        (None, Some(_)) => Trial::Fails,
+        (Some(&STAR), _) => after_star(&p[1..], s),
+        (Some(_), None) => Trial::Never,
+        (Some(a), Some(b)) if a == b => {
+            let n = 1 + alike(&p[1..], &s[1..]);
+            label(&p[n..], &s[n..])
         }
-        return Trial::Fails;
+        (Some(_), Some(_)) => Trial::Fails,
     }
-    if p[0] == STAR {
-        return after_star(&p[1..], s);
-    }
-    if s.len() == 0 {
-        return Trial::Never;
-    }
-    if p[0] == s[0] {
-        let n = 1 + alike(&p[1..], &s[1..]);
-        return label(&p[n..], &s[n..]);
-    }
-    Trial::Fails
 }
 
 // Tries a label against `*` and the pattern that remains. `*` takes one byte more, or several, in each turn.
@@ -102,13 +84,10 @@ fn after_star(p: &[u8], s: &[u8]) -> Trial
     }
     let mut i = next_try(p, s, 0);
     while i <= s.len() {
-        let r = label(p, &s[i..]);
-        match r {
+        match label(p, &s[i..]) {
             Trial::Fits => return Trial::Fits,
             Trial::Never => return Trial::Never,
-            Trial::Fails => {
-                i = next_try(p, s, i + 1);
-            }
+            Trial::Fails => i = next_try(p, s, i + 1),
         }
     }
     Trial::Never // `*` has taken all bytes
@@ -118,7 +97,7 @@ fn after_star(p: &[u8], s: &[u8]) -> Trial
 pub fn label_fits(p: &[u8], s: &[u8]) -> bool
     ensures { result ≡ fits_label p.now s.now }
 {
-    is_fit(label(p, s))
+    label(p, s).is_fit()
 }
 
 // Do the first labels begin with different bytes, and the pattern's with no `*`? Then it does not fit, and no label has to be cut off.
@@ -303,5 +282,5 @@ pub fn fits_formed(pattern: &[u8], path: &[u8]) -> bool
 {
     let a = next_slash(pattern, 0);
     let b = next_slash(path, 0);
-    is_fit(labels(&pattern[a..], &path[b..]))
+    labels(&pattern[a..], &path[b..]).is_fit()
 }
