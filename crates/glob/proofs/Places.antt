@@ -6,7 +6,7 @@ use Rattle.std.proofs.lemmas.List.Recursion.{is_position_or_len}
 use Rattle.std.proofs.lemmas.List.Sums.{position_or_len_is, prefix_len-le-length}
 use Rattle.std.proofs.Math.ListN.{length-drop}
 use lib.Seq.{get_or-drop}
-use borrow.Author.Tests.{ltb-true, ltb-false, ne_eqb}
+use borrow.Author.Tests.{ltb-false, ne_eqb}
 use Rattle.glob.specs.Bytes.{slash}
 use Rattle.glob.proofs.Parts.{back, tail_part}
 use Rattle.glob.specs.Labels.{up_to_slash}

@@ -2,14 +2,14 @@
 -- Assumes nothing.
 use mathlib.Core.Path.{◌≡◌, refl, sym, ap, subst, ◌∙◌}
 use mathlib.Core.List.{List, [], ◌∷◌}
-use mathlib.Core.Bool.{Bool, true, false, cond, not, ◌&&◌, ◌||◌}
+use mathlib.Core.Bool.{Bool, true, false, cond, ◌&&◌, ◌||◌}
 use mathlib.Core.Logic.{⊎_elim}
-use Prim.Native.Nat.{ℕ, zero, suc, min, ◌+◌, ◌-◌, ◌<◌, ◌≤◌}
+use Prim.Native.Nat.{ℕ, ◌+◌, ◌-◌, ◌<◌, ◌≤◌}
 use native.Mathlib.Omega.{arith}
 use lib.ListN.{length, get_or}
 use lib.Dec.{eqb}
 use lib.Seq.{get_or-drop}
-use borrow.Author.Tests.{eq-eqb, ne_eqb, eqb-true}
+use borrow.Author.Tests.{eq-eqb, ne_eqb}
 use Rattle.std.specs.Prelude.{nat_eq}
 use Rattle.std.specs.List.{position_or_len}
 use Rattle.std.proofs.lemmas.Bool.{cases_lt}
@@ -20,7 +20,7 @@ use Rattle.glob.specs.Fit.{after_some, first, fit, fits_label}
 use Rattle.glob.specs.Inner.{Says, is_fit, Alike, Skipped, OffLabel}
 use Rattle.glob.specs.declared.fit.Trial.{Trial}
 use Rattle.glob.specs.declared.fit.Trial.TheVariants.{Fits, Fails, Never}
-use Rattle.buffer.proofs.Tests.{not_both, and_left, and_right, and_false, or_false, or_left, or_left_false, or_right_false}
+use Rattle.buffer.proofs.Tests.{not_both, and_false, or_false, or_left, or_left_false, or_right_false}
 use Rattle.glob.proofs.Parts.{tail_part, rest, split, back, back_all, back_step, back_back, back_end, no_items}
 
 -- where k never holds, it does not hold now

@@ -25,8 +25,8 @@ fn labels_begin(pattern: &[u8], known: &[u8]) -> bool
     requires { Begun pattern.now × Begun known.now }
     ensures { result ≡ begins_labels (labels_of pattern.now) (labels_of known.now) }
 {
-    if pattern.len() == 0 {
-        return known.len() == 0;
+    if pattern.is_empty() {
+        return known.is_empty();
     }
     if known.len() < 2 {
         return true; // at most a `/` is known, and any label may follow
@@ -39,10 +39,7 @@ fn labels_begin(pattern: &[u8], known: &[u8]) -> bool
     if b == known.len() {
         return label_begins(&pattern[1..a], &known[1..b]);
     }
-    if label_fits(&pattern[1..a], &known[1..b]) {
-        return labels_begin(&pattern[a..], &known[b..]);
-    }
-    false
+    label_fits(&pattern[1..a], &known[1..b]) && labels_begin(&pattern[a..], &known[b..])
 }
 
 // Is the first label of a pattern a `**`, with others behind it? Then any labels can go on to fit. Four bytes tell, without a label being cut off: a search

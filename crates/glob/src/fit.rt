@@ -79,7 +79,7 @@ fn label(p: &[u8], s: &[u8]) -> Trial
 fn after_star(p: &[u8], s: &[u8]) -> Trial
     ensures { Says (after_some (fits_label p.now)) s.now result }
 {
-    if p.len() == 0 {
+    if p.is_empty() {
         return Trial::Fits; // a last `*` takes all bytes that are left
     }
     let mut i = next_try(p, s, 0);
@@ -105,16 +105,7 @@ fn begin_unlike(pattern: &[u8], path: &[u8]) -> bool
     requires { Begun pattern.now × Begun path.now }
     ensures { result ≡ true → fit_labels (labels_of pattern.now) (labels_of path.now) ≡ false }
 {
-    if pattern.len() < 2 {
-        return false;
-    }
-    if path.len() < 2 {
-        return false;
-    }
-    if pattern[1] == STAR {
-        return false;
-    }
-    pattern[1] != path[1]
+    pattern.len() > 1 && path.len() > 1 && pattern[1] != STAR && pattern[1] != path[1]
 }
 
 // How many bytes may be passed over at once, since a pattern and a path begin with the same whole labels there, none with a `*`? 0 where none are, and
@@ -124,8 +115,7 @@ fn equal_labels(pattern: &[u8], path: &[u8]) -> usize
     ensures { AlikeLabels pattern.now path.now result }
 {
     let mut n = 0;
-    let mut i = 1;
-    while i < pattern.len() {
+    for i in 1..pattern.len() {
         if path.len() <= i {
             return n;
         }
@@ -138,7 +128,6 @@ fn equal_labels(pattern: &[u8], path: &[u8]) -> usize
         if pattern[i] == SLASH { // both labels end
             n = i;
         }
-        i += 1;
     }
     path.len() // the pattern has ended: so has the path, or it does not fit
 }
@@ -149,8 +138,8 @@ fn labels(pattern: &[u8], path: &[u8]) -> Trial
     requires { Begun pattern.now × Begun path.now }
     ensures { Says (fit_labels (labels_of pattern.now)) (labels_of path.now) result }
 {
-    if pattern.len() == 0 {
-        if path.len() == 0 {
+    if pattern.is_empty() {
+        if path.is_empty() {
             return Trial::Fits;
         }
         return Trial::Fails; // but a `**` before may take more labels
@@ -169,19 +158,14 @@ fn labels(pattern: &[u8], path: &[u8]) -> Trial
     if is_deep(&pattern[1..a]) {
         return descend(&pattern[a..], path);
     }
-    if path.len() == 0 {
+    if path.is_empty() {
         return Trial::Never;
     }
     let b = next_slash(path, 1);
     if !label_fits(&pattern[1..a], &path[1..b]) {
         return Trial::Fails; // but a `**` before may take this label and try the next
     }
-    // the answer for the rest is the answer, each for its own reason
-    match labels(&pattern[a..], &path[b..]) {
-        Trial::Fits => Trial::Fits,
-        Trial::Fails => Trial::Fails, // but a `**` before may take this label, though it fits, and try the next
-        Trial::Never => Trial::Never,
-    }
+    labels(&pattern[a..], &path[b..]) // where this fails, a `**` before may take this label, though it fits, and try the next
 }
 
 // Does a label begin at i, and with the byte c? Most bytes are not c, so this is asked first.
@@ -189,10 +173,7 @@ fn begins_with(path: &[u8], i: usize, c: u8) -> bool
     requires { i + 1 < length path.now }
     ensures { result ≡ eqb (get_or path.now (i + 1) 0) c && eqb (get_or path.now i 0) slash }
 {
-    if path[i + 1] == c {
-        return path[i] == SLASH;
-    }
-    false
+    path[i + 1] == c && path[i] == SLASH
 }
 
 // The next place, from one on, at which the rest of a path may fit a pattern. Where the pattern's first label begins with a byte of its own, that
@@ -201,22 +182,13 @@ fn next_begin(pattern: &[u8], path: &[u8], from: usize) -> usize
     requires { Begun pattern.now × (from ≤ length path.now + 1) }
     ensures { Skipped (OffLabels (labels_of pattern.now) path.now) (length path.now) from result × Begun (take (length path.now - result) (drop result path.now)) }
 {
-    if pattern.len() < 2 {
+    if pattern.len() < 2 || pattern[1] == STAR || pattern[1] == SLASH {
         return next_slash(path, from);
     }
-    let c = pattern[1];
-    if c == STAR {
-        return next_slash(path, from);
-    }
-    if c == SLASH {
-        return next_slash(path, from);
-    }
-    let mut i = from;
-    while i + 1 < path.len() {
-        if begins_with(path, i, c) {
+    for i in from..path.len().saturating_sub(1) {
+        if begins_with(path, i, pattern[1]) {
             return i;
         }
-        i += 1;
     }
     path.len() + 1
 }
@@ -226,13 +198,7 @@ fn is_single(pattern: &[u8]) -> bool
     requires { Begun pattern.now }
     ensures { result ≡ true → Single pattern.now }
 {
-    if pattern.len() == 0 {
-        return false;
-    }
-    if next_slash(pattern, 1) < pattern.len() {
-        return false;
-    }
-    !is_deep(&pattern[1..])
+    !pattern.is_empty() && next_slash(pattern, 1) == pattern.len() && !is_deep(&pattern[1..])
 }
 
 // Tries a path against `**` and a last label, which is not `**`: it takes the path's last label, and `**` all before.
@@ -255,7 +221,7 @@ fn descend(pattern: &[u8], path: &[u8]) -> Trial
     requires { Begun pattern.now × Begun path.now }
     ensures { Says (after_some (fit_labels (labels_of pattern.now))) (labels_of path.now) result }
 {
-    if pattern.len() == 0 { // the `**` is the last label
+    if pattern.is_empty() { // the `**` is the last label
         return Trial::Fits; // it takes all labels that are left
     }
     if is_single(pattern) {
@@ -263,13 +229,10 @@ fn descend(pattern: &[u8], path: &[u8]) -> Trial
     }
     let mut b = next_begin(pattern, path, 0);
     while b <= path.len() {
-        let r = labels(pattern, &path[b..]);
-        match r {
+        match labels(pattern, &path[b..]) {
             Trial::Fits => return Trial::Fits,
             Trial::Never => return Trial::Never,
-            Trial::Fails => {
-                b = next_begin(pattern, path, b + 1);
-            }
+            Trial::Fails => b = next_begin(pattern, path, b + 1),
         }
     }
     Trial::Never // `**` has taken all labels

@@ -18,8 +18,10 @@ use Rattle.glob.proofs.Trials.{tried_none, tried_step, some_none, now_some, neve
 use Rattle.glob.proofs.fit.+after_star_label.Invariants.{Taken}
 use Rattle.glob.proofs.fit.+after_star_label.Goals as goal
 
-pub after_star-returns-then-p-eq0 : goal.after_star-returns-then-p-eq0
-after_star-returns-then-p-eq0 t c = rw (end_law c.args.p.now c.if-p-eq0.true) (some_none c.args.s.now)
+pub after_star-returns-then-is_empty : goal.after_star-returns-then-is_empty
+after_star-returns-then-is_empty t c =
+    let e : length c.args.p.now ≡ 0 = search rules in
+    rw (end_law c.args.p.now e) (some_none c.args.s.now)
 
 pub after_star-loop-i-init : goal.after_star-loop-i-init
 after_star-loop-i-init t c =

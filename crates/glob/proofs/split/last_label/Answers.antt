@@ -1,5 +1,5 @@
 -- `glob::split::last_label` meets its contract: behind the last `/` there is none.
-use Rattle.std.proofs.Common.{rules, arith, ℕ, ◌+◌, refl, ◌≡◌}
+use Rattle.std.proofs.Common.{rules, ◌+◌, refl}
 use Rattle.glob.proofs.Places.{up_all}
 use Rattle.glob.proofs.split.last_label.Goals as goal
 
