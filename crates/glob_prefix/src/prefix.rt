@@ -42,6 +42,7 @@ pub fn literal_prefix(pattern: &[u8]) -> usize
 }
 
 // Do two stretches differ at a place that both have?
+#[tactic(auto, using(crate::proofs::Leading::differs_cut))]
 pub fn differs(a: &[u8], b: &[u8]) -> bool
     ensures { result ≡ differs a.now b.now }
 {
