@@ -38,17 +38,11 @@ width_within (b ∷ s) = go (eqb b 44) (width_within s)
 
 -- ---- one byte
 
-pub only_one : (f : List ℕ) (b : ℕ) → length f ≡ 1 → only b f ≡ eqb (get_or f 0 0) b
+pub only_is : (b : ℕ) (f : List ℕ) → only b f ≡ (eqb (length f) 1 && eqb (get_or f 0 0) b)
 unfolding only
-only_one [] b h = absurd (omega arith)
-only_one (x ∷ []) b h = refl
-only_one (x ∷ y ∷ f) b h = absurd (omega arith)
-
-pub only_not : (f : List ℕ) (b : ℕ) → (length f ≡ 1 → ⊥) → only b f ≡ false
-unfolding only
-only_not [] b h = refl
-only_not (x ∷ []) b h = absurd (h refl)
-only_not (x ∷ y ∷ f) b h = refl
+only_is b [] = refl
+only_is b (x ∷ []) = refl
+only_is b (x ∷ y ∷ f) = grind (arith, nat_tests)
 
 -- ---- numbers
 

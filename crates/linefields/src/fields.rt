@@ -1,7 +1,7 @@
 // The fields of a line: where one ends, numbers, references. Each function answers for a whole field.
 ghost use Rattle.std.specs.Prelude.{◌≡◌, ◌+◌, ◌*◌, ◌≤◌, ◌<◌, length, Some, None, cond};
 ghost use Rattle.linefields.specs.Sizes.{reference_digits};
-ghost use Rattle.linefields.specs.Fields.{Ends, number_from, plain, number_of, hex_digit, hex_value, is_reference, unhex};
+ghost use Rattle.linefields.specs.Fields.{Ends, only, number_from, plain, number_of, hex_digit, hex_value, is_reference, unhex};
 
 use crate::sizes::REFERENCE_DIGITS;
 use buffer::sizes::REFERENCE_SIZE;
@@ -13,6 +13,17 @@ pub fn field_end(s: &[u8], from: usize) -> usize
 {
     let rest = &s[from..];
     from + rest.iter().position(|b| *b == b',').unwrap_or(rest.len())
+}
+
+// Is a field the one byte `b`?
+#[tactic(auto, using(crate::proofs::Scan::only_is, std::proofs::lemmas::Bool::Decides::nat_tests))]
+pub fn is_only(f: &[u8], b: u8) -> bool
+    ensures { result ≡ only b f.now }
+{
+    match f {
+        [x] => *x == b,
+        _ => false,
+    }
 }
 
 // The number that digits spell.
