@@ -12,6 +12,3 @@ use Rattle.session.proofs.print.print_rows.Given as goal
 
 abbrev pub invariant-loop-i : goal.invariant-loop-i
 invariant-loop-i l = (l.i ≤ l.n) × (length l.out ≡ length l.initial.out) × (l.at ≤ l.i * row_line_limit) × Wrote l.initial.out 0 (flat (map row_line (records row_size l.i l.answer))) l.out l.at
-
-abbrev pub decreases-loop-i : goal.decreases-loop-i
-decreases-loop-i l = l.n - l.i
