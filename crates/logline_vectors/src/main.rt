@@ -46,11 +46,13 @@ fn print_line(console: &mut Console, line: &[u8]) {
             console.print(b"setup ");
             print_reply(console, m, l, tau);
         }
-        Some(Command::Add {
-            value,
-            reference,
-            path,
-        }) => {
+        Some(
+            Command::Add {
+                value,
+                reference,
+                path,
+            },
+        ) => {
             console.print(b"add ");
             print_row(console, value, &reference, path);
         }

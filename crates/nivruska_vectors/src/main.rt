@@ -9,9 +9,7 @@ use buffer::numbers::get64;
 use console::Console;
 use linespell::spell::{spell_reply, spell_row};
 use logline::sizes::{REPLY_LIMIT, ROW_LINE_LIMIT};
-use rows::sizes::{
-    LENGTH_AT, PATH_AT, PATH_LIMIT, RECORD_SIZE, REFERENCE_AT, ROW_SIZE,
-};
+use rows::sizes::{LENGTH_AT, PATH_AT, PATH_LIMIT, RECORD_SIZE, REFERENCE_AT, ROW_SIZE};
 use std::io;
 use store::reply::Reply;
 
@@ -65,7 +63,7 @@ fn print_record(console: &mut Console, bytes: &[u8])
     requires { length bytes.now ≡ record_size }
 {
     let mut text = [0u8; ROW_LINE_LIMIT];
-    let n = spell_row(&mut text, 0, &bytes[..ROW_SIZE]);
+    let n = spell_row(&mut text, 0, &bytes[0..ROW_SIZE]);
     console.print(&text[..n]);
     let nodes = usize::from(bytes[ROW_SIZE]);
     for node in bytes[NODES_AT..].chunks_exact(NODE_SIZE).take(nodes) {

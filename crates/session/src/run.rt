@@ -80,11 +80,13 @@ impl Machine {
     {
         match parse(line) {
             Some(Command::Setup { m, l, tau }) => self.setup(m, l, tau),
-            Some(Command::Add {
-                value,
-                reference,
-                path,
-            }) => self.add(value, &reference, path),
+            Some(
+                Command::Add {
+                    value,
+                    reference,
+                    path,
+                },
+            ) => self.add(value, &reference, path),
             Some(Command::Search { low, high, pattern }) => self.search(low, high, pattern),
             None => self.misread(),
         }
