@@ -1,19 +1,16 @@
 -- A line carried out, or none, and what was printed then. Assumes nothing.
 use mathlib.Core.Path.{◌≡◌, refl, sym, ap, ◌∙◌}
 use Prim.Native.Nat.{ℕ}
-use mathlib.Core.List.{List, [], ◌∷◌, map, append-nil}
+use mathlib.Core.List.{List, [], ◌∷◌, append-nil}
 use native.Mathlib.Nat.{zero-add}
 use native.Mathlib.Omega.{arith}
 use lib.ListN.{length, take}
 use lib.Seq.{take_at}
 use Rattle.buffer.proofs.Splice.{splice_is}
-use Rattle.logline.specs.Meaning.{Meaning, meaning_of}
-use Rattle.logline.specs.Input.{Holds, Fed, told, on_end}
+use Rattle.logline.specs.Meaning.{Meaning}
 use Rattle.logline.specs.Spelling.{Wrote}
-use Rattle.linecut.specs.declared.lines.Cut.{Cut}
-use Rattle.std.proofs.Common.{Option}
 use Rattle.session.specs.Printed.{printed, printed_all, next_all}
-use Rattle.session.specs.Keeps.{Ran, RanAll, no_line, one_line, state, FedByte, FedEnd}
+use Rattle.session.specs.Keeps.{Ran, RanAll, no_line, one_line}
 
 -- the first bytes of what was written at the beginning
 wrote_first : {out b filled : List ℕ} {n : ℕ} → Wrote out 0 b filled n → take n filled ≡ b

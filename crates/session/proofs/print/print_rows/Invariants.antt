@@ -1,7 +1,7 @@
 -- One row after another, each where the last one ended.
 use mathlib.Core.Path.{◌≡◌}
 use mathlib.Core.List.{map}
-use Prim.Native.Nat.{◌-◌, ◌*◌, ◌≤◌}
+use Prim.Native.Nat.{◌*◌, ◌≤◌}
 use lib.ListN.{length}
 use Rattle.buffer.specs.Lists.{flat}
 use Rattle.rows.specs.Sizes.{row_size}
