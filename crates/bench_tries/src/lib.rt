@@ -31,5 +31,5 @@ pub extern "C" fn bench_add(
     if s.len() - used < HEAD_SIZE + LEAF_SIZE + value.len() + path.len() {
         return 0;
     }
-    trie_add::add::add(s, 0, used, used, 0, NODE_LIMIT, value, path, reference)
+    trie_add::add::add(s, 0, used, used, None, NODE_LIMIT, value, path, reference)
 }

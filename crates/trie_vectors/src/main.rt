@@ -18,9 +18,10 @@ use console::Console;
 use logline::command::Command;
 use rows::sizes::{NODE_LIMIT, PATH_LIMIT, REFERENCE_SIZE, VALUE_SIZE};
 use std::io;
-use trie_read::head::{Head, read_head};
-use trie_read::sizes::{HEAD_SIZE, LEAF_SIZE, SUFFIX_SIZE};
-use trie_read::suffixes::{Tail, read_suffix};
+use trie_read::head::{Malformed, Node, read_head};
+use trie_read::kind::{Dimension, Kind};
+use trie_read::sizes::{HEAD_SIZE, LEAF_SIZE};
+use trie_read::suffixes::{Suffix, read_suffix};
 
 const INPUT_SIZE: usize = 262144;
 
@@ -29,120 +30,79 @@ const REGION_SIZE: usize = 65536;
 // The most that an addition adds beside the key's bytes: a leaf and a parent.
 const GROWTH: usize = LEAF_SIZE + HEAD_SIZE;
 
-fn print_text(console: &mut Console, text: &[u8]) {
-    console.print(text);
-}
-
-fn print_number(console: &mut Console, n: u64) {
-    console.print_decimal(n);
-}
-
-fn wide(x: u8) -> u64 {
-    x as u64
-}
-
 fn print_hex(console: &mut Console, s: &[u8]) {
-    let mut i: usize = 0;
-    while i < s.len() {
-        console.print_hex(s[i]);
-        i += 1;
+    for b in s {
+        console.print_hex(*b);
     }
 }
 
 fn is_plain(b: u8) -> bool {
-    if b <= b' ' {
-        return false;
-    }
-    if b == b'"' {
-        return false;
-    }
-    if b == b'%' {
-        return false;
-    }
-    b < 127
+    b > b' ' && b < 127 && b != b'"' && b != b'%'
 }
 
 // A byte of a path; `%` and two digits for one that would not be read as it stands.
 fn print_byte(console: &mut Console, b: u8) {
     if is_plain(b) {
-        let text = [b];
-        print_text(console, &text);
+        console.print(&[b]);
         return;
     }
-    print_text(console, b"%");
+    console.print(b"%");
     console.print_hex(b);
 }
 
 fn print_path(console: &mut Console, s: &[u8]) {
-    print_text(console, b" \"");
-    let mut i: usize = 0;
-    while i < s.len() {
-        print_byte(console, s[i]);
-        i += 1;
+    console.print(b" \"");
+    for b in s {
+        print_byte(console, *b);
     }
-    print_text(console, b"\"");
+    console.print(b"\"");
 }
 
 fn print_indent(console: &mut Console, n: usize) {
-    let mut i: usize = 0;
-    while i < n {
-        print_text(console, b"  ");
-        i += 1;
+    for _ in 0..n {
+        console.print(b"  ");
     }
 }
 
-fn print_kind(console: &mut Console, kind: usize) {
-    if kind == 0 {
-        print_text(console, b"leaf ");
-    } else if kind == 1 {
-        print_text(console, b"V ");
-    } else if kind == 2 {
-        print_text(console, b"P ");
-    } else {
-        print_text(console, b"unknown ");
+fn print_kind(console: &mut Console, kind: Kind) {
+    match kind {
+        Kind::Leaf => console.print(b"leaf "),
+        Kind::Inner(Dimension::Value) => console.print(b"V "),
+        Kind::Inner(Dimension::Path) => console.print(b"P "),
+        Kind::Inner(Dimension::Other(_)) => console.print(b"unknown "),
     }
 }
 
-fn print_node(console: &mut Console, kind: usize, value: &[u8], path: &[u8], indent: usize) {
+fn print_node(console: &mut Console, node: &Node<'_>, indent: usize) {
     print_indent(console, indent);
-    print_kind(console, kind);
-    print_hex(console, value);
-    print_path(console, path);
-    print_text(console, b"\n");
+    print_kind(console, node.kind);
+    print_hex(console, node.value);
+    print_path(console, node.path);
+    console.print(b"\n");
 }
 
-fn print_suffix(console: &mut Console, value: &[u8], path: &[u8], reference: &[u8], indent: usize) {
+fn print_suffix(console: &mut Console, suffix: &Suffix<'_>, indent: usize) {
     print_indent(console, indent);
-    print_text(console, b"- ");
-    print_hex(console, value);
-    print_path(console, path);
-    print_text(console, b" ");
-    print_hex(console, reference);
-    print_text(console, b"\n");
+    console.print(b"- ");
+    print_hex(console, suffix.value);
+    print_path(console, suffix.path);
+    console.print(b" ");
+    print_hex(console, suffix.reference);
+    console.print(b"\n");
+}
+
+fn print_suffixes(console: &mut Console, body: &[u8], indent: usize) -> Result<(), Malformed> {
+    let mut b = body;
+    while let Some(suffix) = read_suffix(b)? {
+        print_suffix(console, &suffix, indent);
+        b = suffix.rest;
+    }
+    Ok(())
 }
 
 fn draw_suffixes(console: &mut Console, body: &[u8], indent: usize) {
-    let mut b = body;
-    loop {
-        match read_suffix(b) {
-            Tail::At { path, next } => {
-                print_suffix(
-                    console,
-                    &b[SUFFIX_SIZE..path],
-                    &b[path..next],
-                    &b[2..SUFFIX_SIZE],
-                    indent,
-                );
-                b = &b[next..];
-            }
-            Tail::End => {
-                return;
-            }
-            Tail::Bad => {
-                print_text(console, b"no suffix\n");
-                return;
-            }
-        }
+    if print_suffixes(console, body, indent).is_err() {
+        console.print(b"no suffix\n");
     }
 }
 
@@ -150,34 +110,27 @@ fn draw_suffixes(console: &mut Console, body: &[u8], indent: usize) {
 fn draw(console: &mut Console, t: &[u8], indent: usize)
     requires { indent + length t.now < four_byte_limit }
 {
-    match read_head(t) {
-        Head::Node {
-            kind,
-            path,
-            body,
-            next,
-        } => {
-            print_node(console, kind, &t[HEAD_SIZE..path], &t[path..body], indent);
-            if kind == 0 {
-                draw_suffixes(console, &t[body..next], indent + 1);
-            } else {
-                draw(console, &t[body..next], indent + 1);
-            }
-            draw(console, &t[next..], indent);
-        }
-        Head::End => {}
-        Head::Bad => {
-            print_text(console, b"no node\n");
-        }
+    let Ok(first) = read_head(t) else {
+        console.print(b"no node\n");
+        return;
+    };
+    let Some(node) = first else {
+        return;
+    };
+    print_node(console, &node, indent);
+    match node.kind {
+        Kind::Leaf => draw_suffixes(console, node.body, indent + 1),
+        Kind::Inner(_) => draw(console, node.body, indent + 1),
     }
+    draw(console, node.rest, indent);
 }
 
 // Draws the trie, says how many bytes it has, and clears them.
 fn end_set(console: &mut Console, s: &mut [u8], used: usize)
     requires { (used ≤ length s.old) × (length s.old < four_byte_limit) }
 {
-    print_number(console, used as u64);
-    print_text(console, b" bytes\n");
+    console.print_decimal(used as u64);
+    console.print(b" bytes\n");
     draw(console, &s[0..used], 0);
     buffer::moves::clear(s, 0, used);
 }
@@ -186,9 +139,9 @@ fn ask(console: &mut Console, s: &[u8], used: usize, value: &[u8], path: &[u8], 
     requires { used ≤ length s.now }
 {
     if trie_read::lookup::contains(&s[0..used], value, path, reference) {
-        print_text(console, b"1\n");
+        console.print(b"1\n");
     } else {
-        print_text(console, b"0\n");
+        console.print(b"0\n");
     }
 }
 
@@ -206,10 +159,10 @@ fn grow(
     ensures { result ≤ length s.new }
 {
     if s.len() - used < GROWTH + value.len() + path.len() {
-        print_text(console, b"full\n");
+        console.print(b"full\n");
         return used;
     }
-    let n = trie_add::add::add(s, 0, used, used, 0, NODE_LIMIT, value, path, reference);
+    let n = trie_add::add::add(s, 0, used, used, None, NODE_LIMIT, value, path, reference);
     used + n
 }
 
@@ -227,7 +180,7 @@ fn apply(
     ensures { result ≤ length s.new }
 {
     if PATH_LIMIT < path.len() {
-        print_text(console, b"path over 200\n");
+        console.print(b"path over 200\n");
         return used;
     }
     let mut v = [0u8; VALUE_SIZE];
@@ -279,15 +232,15 @@ fn read_line(console: &mut Console, s: &mut [u8], used: usize, asks: bool, line:
         path,
     } = command
     else {
-        print_text(console, b"misread\n");
+        console.print(b"misread\n");
         return used;
     };
     apply_line(console, s, used, asks, line, value, reference, path)
 }
 
 fn print_title(console: &mut Console, line: &[u8]) {
-    print_text(console, line);
-    print_text(console, b"\n");
+    console.print(line);
+    console.print(b"\n");
 }
 
 fn step(console: &mut Console, s: &mut [u8], used: usize, line: &[u8]) -> usize
@@ -314,14 +267,8 @@ fn line_end(text: &[u8], from: usize) -> usize
     requires { from ≤ length text.now }
     ensures { (from ≤ result) × (result ≤ length text.now) }
 {
-    let mut i = from;
-    while i < text.len() {
-        if text[i] == b'\n' {
-            return i;
-        }
-        i += 1;
-    }
-    i
+    let rest = &text[from..];
+    from + rest.iter().position(|b| *b == b'\n').unwrap_or(rest.len())
 }
 
 fn run(console: &mut Console, s: &mut [u8], text: &[u8])
