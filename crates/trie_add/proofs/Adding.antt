@@ -18,6 +18,9 @@ use Rattle.trie_theory.proofs.Encode.{halves}
 use Rattle.trie_read.specs.Heads.{front}
 use Rattle.trie_read.specs.Heads.{body_of}
 use Rattle.trie_read.specs.Places.{top}
+use Rattle.trie_read.specs.Kinds.{kind_of_byte}
+use Rattle.trie_read.specs.declared.kind.Kind.TheVariants.{Leaf}
+use Rattle.trie_read.proofs.KindBytes.{byte_inner}
 use Rattle.trie_read.proofs.Node.{length_front}
 use Rattle.trie_add.specs.Replaced.{Replaced}
 use Rattle.trie_add.specs.Added.{kind_of, grown_body}
@@ -117,14 +120,14 @@ appended s s₁ body next used r old more e h k fit m q =
       long = omega (arith, length-append old more, lo);
     }
 
-pub leaf_grown : (s s₁ s₂ : List ℕ) (node body next used r : ℕ) (y : Key) (f : Forest) → Regular 2 f → 0 ≡ kind_of f → (f ≡ none → ⊥)
-    → region s node (body - node) ≡ front 0 (top f) (next - body) → region s body (next - body) ≡ body_of f
+pub leaf_grown : (s s₁ s₂ : List ℕ) (node body next used r : ℕ) (y : Key) (f : Forest) → Regular 2 f → Leaf ≡ kind_of_byte (kind_of f) → (f ≡ none → ⊥)
+    → region s node (body - node) ≡ front (kind_of f) (top f) (next - body) → region s body (next - body) ≡ body_of f
     → node ≤ body → body ≤ next → next ≤ used → used + r ≤ length s → r ≡ length (suffix_bytes y)
     → s₁ ≡ splice s next (suffix_bytes y ++ region s next (used - next)) → s₂ ≡ splice s₁ (node + 3) (bytes_of 4 (next - body + r))
-    → Replaced s node next used (node_bytes 0 (top f) (grown_body f y)) s₂ r
+    → Replaced s node next used (node_bytes (kind_of f) (top f) (grown_body f y)) s₂ r
 unfolding Regular kind_of top body_of grown_body
 leaf_grown s s₁ s₂ node body next used r y none w z n e b a h k fit m p q = absurd (n refl)
 leaf_grown s s₁ s₂ node body next used r y (leaf st ts more) w z n e b a h k fit m p q =
     body_grown s s₁ s₂ node body next used 0 r st _ w.0 e a h k fit
     (rw (suffixes_more ts y) (appended s s₁ body next used r (flat (map suffix_bytes ts)) (suffix_bytes y) b h k fit m p)) q
-leaf_grown s s₁ s₂ node body next used r y (inner d st children more) w z n e b a h k fit m p q = absurd (omega arith)
+leaf_grown s s₁ s₂ node body next used r y (inner d st children more) w z n e b a h k fit m p q = absurd (byte_inner d (sym z))

@@ -1,7 +1,7 @@
 -- Each return of the addition: what a callee has made of a body, of a node, of the siblings. Assumes nothing.
-use mathlib.Core.Path.{◌≡◌, refl, ap, ◌∙◌}
+use mathlib.Core.Path.{◌≡◌, refl, sym, ap, ◌∙◌}
 use mathlib.Core.Bool.{true, false}
-use Prim.Native.Nat.{ℕ, ◌+◌, ◌-◌, ◌≤◌}
+use Prim.Native.Nat.{ℕ, suc, ◌+◌, ◌-◌, ◌≤◌}
 use mathlib.Core.List.{List, [], ◌∷◌, ◌++◌}
 use native.Mathlib.Omega.{arith}
 use lib.ListN.{length, length-append}
@@ -13,30 +13,36 @@ use Rattle.trie_theory.specs.SmallTrie.{new_leaf, added}
 use Rattle.trie_theory.specs.Sound.{Ascending}
 use Rattle.trie_theory.specs.Size.{height}
 use Rattle.trie_theory.specs.Encode.{Regular, encode, node_bytes}
-use Rattle.trie_read.specs.Heads.{front, body_of, head_of}
+use Rattle.std.specs.Prelude.{Option, Some}
+use Rattle.trie_read.specs.Heads.{front, body_of}
 use Rattle.trie_read.specs.Places.{top, Passed, Here}
 use Rattle.trie_read.specs.Shape.{part, key_of, above_of}
-use Rattle.trie_read.specs.declared.head.Head.TheVariants.{Node}
+use Rattle.trie_read.specs.Kinds.{number_of, kind_of_byte, byte_of_kind}
+use Rattle.trie_read.specs.declared.kind.Dimension.{Dimension}
+use Rattle.trie_read.specs.declared.kind.Kind.{Kind}
+use Rattle.trie_read.specs.declared.kind.Kind.TheVariants.{Inner}
+use Rattle.trie_read.proofs.KindBytes.{byte_back, byte_inner, inner_number}
 use Rattle.trie_read.proofs.Stretch.{part_from}
 use Rattle.trie_add.specs.Replaced.{Replaced, split_bytes}
 use Rattle.trie_add.specs.Added.{Added, AddedAt, Grown, single, siblings, kind_of, grown_body}
 use Rattle.trie_add.proofs.Adding.{stretch, widened, body_grown}
-use Rattle.trie_add.proofs.First.{single_bytes, single_added, single_agrees, single_differs, new_leaf_before, head_kind, single_length, stands}
+use Rattle.trie_add.proofs.First.{single_bytes, single_added, single_agrees, single_differs, new_leaf_before, places_of, single_length, stands}
 
 -- ---- below an inner node
 
-pub inner_grown : (s s₁ s₂ : List ℕ) (node kind body next used depth r : ℕ) (y : Key) (f : Forest) (above : ℕ) → Regular 2 f → Ascending (above_of above) f → height f ≤ depth
-    → kind ≡ kind_of f → (kind ≡ 0 → ⊥) → (f ≡ none → ⊥)
-    → region s node (body - node) ≡ front kind (top f) (next - body) → region s body (next - body) ≡ body_of f
+pub inner_grown : (s s₁ s₂ : List ℕ) (node : ℕ) (dimension : Dimension) (body next used depth r : ℕ) (y : Key) (f : Forest) (above : Option Dimension)
+    → Regular 2 f → Ascending (above_of above) f → height f ≤ depth → Inner dimension ≡ kind_of_byte (kind_of f) → (f ≡ none → ⊥)
+    → region s node (body - node) ≡ front (kind_of f) (top f) (next - body) → region s body (next - body) ≡ body_of f
     → node ≤ body → body ≤ next → next ≤ used → used + r ≤ length s
-    → Added s body next used kind (depth - 1) y s₁ r → s₂ ≡ splice s₁ (node + 3) (bytes_of 4 (next - body + r))
-    → Replaced s node next used (node_bytes kind (top f) (grown_body f y)) s₂ r
+    → Added s body next used (Some dimension) (depth - 1) y s₁ r → s₂ ≡ splice s₁ (node + 3) (bytes_of 4 (next - body + r))
+    → Replaced s node next used (node_bytes (kind_of f) (top f) (grown_body f y)) s₂ r
 unfolding Regular Ascending height kind_of top body_of grown_body
-inner_grown s s₁ s₂ node kind body next used depth r y none above w asc h k z n e b p1 p2 p3 fit ad q = absurd (n refl)
-inner_grown s s₁ s₂ node kind body next used depth r y (leaf st ts more) above w asc h k z n e b p1 p2 p3 fit ad q = absurd (z k)
-inner_grown s s₁ s₂ node kind body next used depth r y (inner d st children more) above w asc h k z n e b p1 p2 p3 fit ad q =
-    let below = rw k at ad in
-    body_grown s s₁ s₂ node body next used kind r st _ w.0 e p1 p2 p3 fit (below.are children w.1 asc.1 (omega arith) b) q
+inner_grown s s₁ s₂ node dimension body next used depth r y none above w asc h k n e b p1 p2 p3 fit ad q = absurd (n refl)
+inner_grown s s₁ s₂ node dimension body next used depth r y (leaf st ts more) above w asc h k n e b p1 p2 p3 fit ad q = absurd cc
+inner_grown s s₁ s₂ node dimension body next used depth r y (inner d st children more) above w asc h k n e b p1 p2 p3 fit ad q =
+    let m : number_of dimension ≡ d = inner_number d dimension (sym k) in
+    let are = rw m at ad.are in
+    body_grown s s₁ s₂ node body next used (suc d) r st _ w.0 e p1 p2 p3 fit (are children w.1 asc.1 (omega arith) b) q
 
 -- ---- at a node
 
@@ -46,7 +52,7 @@ remains_two : (st : Strings) (nv np v p r : List ℕ) (a b : ℕ) → nv ∷ np 
 unfolding remains strip
 remains_two st nv np v p r a b e f g = rw (← e, part_from v a, part_from p b, f, g)
 
-module _ (s : List ℕ) (node kind start body next used above depth : ℕ) (v p r : List ℕ)
+module _ (s : List ℕ) (node : ℕ) (kind : Kind) (start body next used : ℕ) (above : Option Dimension) (depth : ℕ) (v p r : List ℕ)
     (a : node + 7 ≤ start) (b : start ≤ body) (c : body ≤ next) (d : next ≤ used) where
   abbrev x : Key
   x = key_of v p r
@@ -62,31 +68,32 @@ module _ (s : List ℕ) (node kind start body next used above depth : ℕ) (v p 
       record {
         little = l;
         are = λ f w asc h e hd m.
-            let st = stands s node kind start body next f w e hd (omega arith) b c (omega arith) in
+            let st = stands s node kind start body next f w e hd (omega arith) in
             let rest = remains_two (top f) (part (node + 7) start s) (part start body s) v p r i j st.strings_are ei ej in
             let y = grown.are f above w asc h st.kind_is st.some st.front_is st.body_is in
-            rw (single_agrees (above_of above) x f st.some m (rw st.strings_are at g), ← rest, ← st.kind_is) y;
+            rw (single_agrees (above_of above) x f st.some m (rw st.strings_are at g), ← rest) y;
       }
 
   pub visit_differs : (s' : List ℕ) (n : ℕ) → n ≤ 36 + length v + length p → used ≤ length s → all_begin node_strings (v ∷ p ∷ []) ≡ false
-      → Replaced s node next used (split_bytes (above_of above) kind node_strings (region s body (next - body)) x) s' n
+      → Replaced s node next used (split_bytes (above_of above) (byte_of_kind kind) node_strings (region s body (next - body)) x) s' n
       → AddedAt s node kind start body next used above depth x s' n
   visit_differs s' n l fit g replaced =
       record {
         little = l;
         are = λ f w asc h e hd m.
-            let st = stands s node kind start body next f w e hd (omega arith) b c (omega arith) in
-            rw (single_differs (above_of above) x f st.some m (rw st.strings_are at g), ← st.kind_is, ← st.strings_are, ← st.body_is) replaced;
+            let st = stands s node kind start body next f w e hd (omega arith) in
+            let byte : byte_of_kind kind ≡ kind_of f = ap byte_of_kind st.kind_is ∙ byte_back (kind_of f) in
+            rw (single_differs (above_of above) x f st.some m (rw st.strings_are at g), ← byte, ← st.strings_are, ← st.body_is) replaced;
       }
 
 -- ---- among siblings
 
-module _ (s : List ℕ) (off stop used above depth : ℕ) (v p r : List ℕ) (a : off ≤ stop) (b : stop ≤ used) where
+module _ (s : List ℕ) (off stop used : ℕ) (above : Option Dimension) (depth : ℕ) (v p r : List ℕ) (a : off ≤ stop) (b : stop ≤ used) where
   abbrev t : List ℕ
   t = region s off (stop - off)
 
   -- the node found has taken the key in
-  pub added_node : (s' : List ℕ) (n at kind path body next : ℕ) (f : Forest) → used + n ≤ length s → height f ≤ depth
+  pub added_node : (s' : List ℕ) (n at : ℕ) (kind : Kind) (path body next : ℕ) (f : Forest) → used + n ≤ length s → height f ≤ depth
       → at + 7 ≤ path → path ≤ body → body ≤ next → off + next ≤ stop → length t ≡ stop - off
       → Here t above (v ∷ p ∷ []) f at kind path body next
       → AddedAt s (off + at) kind (off + path) (off + body) (off + next) used above depth (key_of v p r) s' n
@@ -95,12 +102,10 @@ module _ (s : List ℕ) (off stop used above depth : ℕ) (v p r : List ℕ) (a 
       let q = here.passed in
       let over = q.over in
       let x = key_of v p r in
-      let hd : Node kind (off + path - (off + at)) (off + body - (off + at)) (off + next - (off + at)) ≡ head_of over =
-      here.told _ _ _ (omega (arith, l1)) (omega (arith, l1, l2)) (omega (arith, l1, l2, l3)) in
+      let hd = places_of t off at kind path body next l1 l2 l3 (omega arith) over here.told in
       let own = encode (single over) in
       let rest = encode (siblings over) in
-      let k = head_kind kind _ _ _ over hd in
-      let lo : length own ≡ off + next - (off + at) = single_length kind _ _ _ over q.shaped hd in
+      let lo : length own ≡ off + next - (off + at) = single_length _ kind _ _ _ over q.shaped hd in
       let whole : t ≡ q.front ++ (own ++ rest) = q.bytes ∙ ap (λ (w : List ℕ). q.front ++ w) (single_bytes over) in
       let ll : length t ≡ length q.front + (length own + length rest) = ap length whole ∙ length-append q.front (own ++ rest) ∙ ap (λ (m : ℕ). length q.front + m) (length-append own rest) in
       let lr = length-append own rest in
@@ -112,7 +117,7 @@ module _ (s : List ℕ) (off stop used above depth : ℕ) (v p r : List ℕ) (a 
       let changed = ad.are over q.shaped q.ascends (omega (arith, q.lower)) stands_at hd here.leads in
       let wide = widened s s' off stop used n (off + at) (off + next) q.front own (encode (added (above_of above) (single over) x)) rest whole a b fit
       (omega (arith, q.here)) (omega (arith, lo, l1, l2, l3)) (omega (arith, lo, l1, l2, l3, ll, lt, q.here)) changed in
-      rw (q.added x refl, single_added (above_of above) x over k.0 here.leads) wide
+      rw (q.added x refl, single_added (above_of above) x over hd.some here.leads) wide
 
   -- a leaf has gone into the gap found
   pub added_gap : (s' : List ℕ) (n at : ℕ) (f : Forest) → used + n ≤ length s → length t ≡ stop - off → n ≡ length (encode (new_leaf (key_of v p r) none))

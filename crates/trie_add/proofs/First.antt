@@ -16,14 +16,17 @@ use Rattle.trie_theory.specs.Dimensions.{Above, below}
 use Rattle.trie_theory.specs.SmallTrie.{meets, new_leaf, split, outcome, added, two, differing}
 use Rattle.trie_theory.specs.Size.{height}
 use Rattle.trie_theory.specs.Encode.{Regular, encode, node_bytes, suffix_bytes}
-use Rattle.trie_read.specs.Heads.{front, body_of, head_of}
-use Rattle.trie_read.specs.Places.{top}
+use Rattle.std.specs.Prelude.{Some}
+use Rattle.trie_read.specs.Heads.{Head, front, body_of, head_of}
+use Rattle.trie_read.specs.Places.{top, head_between}
 use Rattle.trie_read.specs.Shape.{part}
-use Rattle.trie_read.specs.declared.head.Head.TheVariants.{Node}
-use Rattle.trie_read.proofs.Node.{length_front, length_own}
+use Rattle.trie_read.specs.Kinds.{kind_of_byte}
+use Rattle.trie_read.specs.declared.kind.Kind.{Kind}
+use Rattle.trie_read.proofs.Node.{length_front, length_own, head_is}
+use Rattle.trie_read.proofs.Stretch.{length_part}
 use Rattle.trie_read.proofs.Node.{two as two_strings}
 use Rattle.trie_add.specs.Replaced.{split_bytes}
-use Rattle.trie_add.specs.Added.{single, siblings, kind_of, grown_body}
+use Rattle.trie_add.specs.Added.{single, siblings, kind_of, grown_body, PlacesOf}
 use Rattle.trie_add.proofs.Splitting.{own_is}
 use Rattle.trie_add.proofs.Adding.{stretch}
 
@@ -115,11 +118,11 @@ module _ (above : Above) (x : Key) where
 -- ---- where the first stands in a slice
 
 -- the node from `node` to `next` is the first of f
-pub record Stands (s : List ℕ) (node kind start body next : ℕ) (f : Forest) : Type 0 where
+pub record Stands (s : List ℕ) (node : ℕ) (kind : Kind) (start body next : ℕ) (f : Forest) : Type 0 where
   pub some : f ≡ none → ⊥
-  pub kind_is : kind ≡ kind_of f
+  pub kind_is : kind ≡ kind_of_byte (kind_of f)
   pub wide : length (top f) ≡ 2
-  pub front_is : region s node (body - node) ≡ front kind (top f) (next - body)
+  pub front_is : region s node (body - node) ≡ front (kind_of f) (top f) (next - body)
   pub body_is : region s body (next - body) ≡ body_of f
   pub strings_are : part (node + 7) start s ∷ part start body s ∷ [] ≡ top f
 
@@ -140,19 +143,28 @@ strings_at s node kind start body m v p e a b h =
     let w : node + 7 + length v ≡ start = omega arith in
     (rw y (rw x at two.0), rw z (rw (x, w) at two.1))
 
--- what a head says of the first
-pub head_kind : (kind a b c : ℕ) (f : Forest) → Node kind a b c ≡ head_of f → (f ≡ none → ⊥) × (kind ≡ kind_of f)
-unfolding head_of kind_of body_of
-head_kind kind a b c none e = absurd (let z : ◌≡◌ {A = ℕ} 0 1 = cc in omega arith)
-head_kind kind a b c (leaf s ts more) e = (λ n. let z : ◌≡◌ {A = ℕ} 0 1 = cc in omega arith, cc)
-head_kind kind a b c (inner d s children more) e = (λ n. let z : ◌≡◌ {A = ℕ} 0 1 = cc in omega arith, cc)
+-- the places of a head
+module _ (t : List ℕ) (off at_ : ℕ) (kind : Kind) (path body next : ℕ) (a : at_ + 7 ≤ path) (b : path ≤ body) (c : body ≤ next) (d : next ≤ length t) where
+  placed : (byte : ℕ) (f : Forest) (rest : List ℕ) → (f ≡ none → ⊥) → byte ≡ kind_of f
+      → head_between t at_ kind path body next ≡ record { kind = kind_of_byte byte; value = at 0 (top f); path = at 1 (top f); body = body_of f; rest = rest }
+      → PlacesOf (off + at_) kind (off + path) (off + body) (off + next) f
+  placed byte f rest n k e =
+      let v : length (part (at_ + 7) path t) ≡ length (at 0 (top f)) = ap (λ (h : Head). length h.value) e in
+      let p : length (part path body t) ≡ length (at 1 (top f)) = ap (λ (h : Head). length h.path) e in
+      let y : length (part body next t) ≡ length (body_of f) = ap (λ (h : Head). length h.body) e in
+      record {
+        some = n;
+        kind_is = ap (λ (h : Head). h.kind) e ∙ ap kind_of_byte k;
+        value_is = omega (arith, v, length_part t (at_ + 7) path (omega arith));
+        path_is = omega (arith, p, length_part t path body (omega arith));
+        body_is = omega (arith, y, length_part t body next d);
+      }
 
-head_lengths : (kind a b c : ℕ) (f : Forest) → Node kind a b c ≡ head_of f
-    → (a ≡ 7 + length (at 0 (top f))) × (b ≡ 7 + length (at 0 (top f)) + length (at 1 (top f))) × (c ≡ 7 + length (at 0 (top f)) + length (at 1 (top f)) + length (body_of f))
-unfolding head_of body_of top
-head_lengths kind a b c none e = absurd (let z : ◌≡◌ {A = ℕ} 0 1 = cc in omega arith)
-head_lengths kind a b c (leaf s ts more) e = (cc, cc, cc)
-head_lengths kind a b c (inner d s children more) e = (cc, cc, cc)
+  pub places_of : (f : Forest) → Some (head_between t at_ kind path body next) ≡ head_of f → PlacesOf (off + at_) kind (off + path) (off + body) (off + next) f
+  unfolding head_of kind_of body_of top
+  places_of none e = absurd cc
+  places_of (leaf s ts more) e = placed 0 (leaf s ts more) (encode more) (λ n. cc) refl (head_is _ 0 s _ _ e)
+  places_of (inner m s children more) e = placed (suc m) (inner m s children more) (encode more) (λ n. cc) refl (head_is _ (suc m) s _ _ e)
 
 regular_top : (f : Forest) → Regular 2 f → (f ≡ none → ⊥) → length (top f) ≡ 2
 unfolding Regular top
@@ -160,34 +172,29 @@ regular_top none w n = absurd (n refl)
 regular_top (leaf s ts more) w n = w.0
 regular_top (inner d s children more) w n = w.0
 
-pub stands : (s : List ℕ) (node kind start body next : ℕ) (f : Forest) → Regular 2 f → region s node (next - node) ≡ encode (single f)
-    → Node kind (start - node) (body - node) (next - node) ≡ head_of f → node ≤ start → start ≤ body → body ≤ next → next ≤ length s
-    → Stands s node kind start body next f
-stands s node kind start body next f w e h a b c d =
-    let k = head_kind kind _ _ _ f h in
-    let l = head_lengths kind _ _ _ f h in
-    let wide = regular_top f w k.0 in
-    let own : region s node (next - node) ≡ front kind (top f) (length (body_of f)) ++ body_of f = e ∙ single_own f k.0 ∙ own_is (kind_of f) (top f) (body_of f) wide ∙ rw k.1 in
-    let lf = length_front kind (top f) (length (body_of f)) in
-    let n : next - node ≡ length (front kind (top f) (length (body_of f))) + length (body_of f) = omega (arith, lf, l) in
-    let parts = stretch s node (next - node) (front kind (top f) (length (body_of f))) (body_of f) own n (omega arith) in
-    let x : length (front kind (top f) (length (body_of f))) ≡ body - node = omega (arith, lf, l) in
+pub stands : (s : List ℕ) (node : ℕ) (kind : Kind) (start body next : ℕ) (f : Forest) → Regular 2 f → region s node (next - node) ≡ encode (single f)
+    → PlacesOf node kind start body next f → next ≤ length s → Stands s node kind start body next f
+stands s node kind start body next f w e l d =
+    let wide = regular_top f w l.some in
+    let own : region s node (next - node) ≡ front (kind_of f) (top f) (length (body_of f)) ++ body_of f = e ∙ single_own f l.some ∙ own_is (kind_of f) (top f) (body_of f) wide in
+    let lf = length_front (kind_of f) (top f) (length (body_of f)) in
+    let n : next - node ≡ length (front (kind_of f) (top f) (length (body_of f))) + length (body_of f) = omega (arith, lf, l) in
+    let parts = stretch s node (next - node) (front (kind_of f) (top f) (length (body_of f))) (body_of f) own n (omega (arith, l)) in
+    let x : length (front (kind_of f) (top f) (length (body_of f))) ≡ body - node = omega (arith, lf, l) in
     let y : length (body_of f) ≡ next - body = omega (arith, l) in
-    let z : node + (body - node) ≡ body = omega arith in
+    let z : node + (body - node) ≡ body = omega (arith, l) in
     let first = rw (x, y) at parts.0 in
-    let st = strings_at s node kind start body (next - body) (at 0 (top f)) (at 1 (top f)) (first ∙ ap (λ (t : Strings). front kind t (next - body)) (two_strings (top f) wide)) (omega (arith, l)) (omega (arith, l)) (omega arith) in
+    let st = strings_at s node (kind_of f) start body (next - body) (at 0 (top f)) (at 1 (top f)) (first ∙ ap (λ (t : Strings). front (kind_of f) t (next - body)) (two_strings (top f) wide)) (omega (arith, l)) (omega (arith, l)) (omega (arith, l)) in
     record {
-      some = k.0;
-      kind_is = k.1;
+      some = l.some;
+      kind_is = l.kind_is;
       wide = wide;
       front_is = first;
       body_is = rw (x, z, y) at parts.1;
       strings_are = rw (st.0, st.1) (sym (two_strings (top f) wide));
     }
 
-pub single_length : (kind a b c : ℕ) (f : Forest) → Regular 2 f → Node kind a b c ≡ head_of f → length (encode (single f)) ≡ c
-single_length kind a b c f w h =
-    let k = head_kind kind a b c f h in
-    let l = head_lengths kind a b c f h in
-    let wide = regular_top f w k.0 in
-    ap length (single_own f k.0) ∙ length_own (kind_of f) (top f) (body_of f) wide ∙ sym l.2
+pub single_length : (node : ℕ) (kind : Kind) (start body next : ℕ) (f : Forest) → Regular 2 f → PlacesOf node kind start body next f → length (encode (single f)) ≡ next - node
+single_length node kind start body next f w l =
+    let wide = regular_top f w l.some in
+    omega (arith, ap length (single_own f l.some) ∙ length_own (kind_of f) (top f) (body_of f) wide, l)

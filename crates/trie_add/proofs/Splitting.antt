@@ -14,7 +14,10 @@ use Rattle.trie_theory.specs.Strings.{common, commons, strip, remains, first}
 use Rattle.trie_theory.specs.Dimensions.{Above, branching}
 use Rattle.trie_theory.specs.SmallTrie.{new_leaf, differing}
 use Rattle.trie_theory.specs.Encode.{encode, node_bytes}
+use Rattle.std.specs.Prelude.{Some}
 use Rattle.trie_read.specs.Shape.{key_of, above_of}
+use Rattle.trie_read.specs.Kinds.{number_of}
+use Rattle.trie_read.specs.declared.kind.Dimension.{Dimension}
 use Rattle.trie_read.specs.Heads.{front}
 use Rattle.trie_read.proofs.Node.{node_is, length_front}
 use Rattle.trie_write.proofs.NewLeaf.{length_new_leaf}
@@ -143,12 +146,13 @@ module _ (above : Above) (kind : ℕ) (nv np body v p r : List ℕ) (h : length 
         ∙ splice_insert s s₁ at (next + 7) _ x new tail all (omega (arith, l, m, one_long, body_long)) n (omega (arith, l, m, one_long, new_long, body_long, tail_long))
         ∙ ap (splice s at) (simp append_assoc))
 
-    pub split_done : (front : Bool) (place : ℕ) → front ≡ ltb (branching (above_of up) (drop a v ∷ drop b p ∷ [])) (branching (above_of up) left) → place ≡ cond front (at + 7 + (a + b)) (next + 7)
+    pub split_done : (dimension : Dimension) → number_of dimension ≡ d → (front : Bool) (place : ℕ)
+        → front ≡ ltb (branching (above_of (Some dimension)) (drop a v ∷ drop b p ∷ [])) (branching (above_of (Some dimension)) left) → place ≡ cond front (at + 7 + (a + b)) (next + 7)
         → s₂ ≡ splice s₁ place (new ++ region s₁ place (used + 7 - place))
         → Replaced s at next used (split_bytes above kind (nv ∷ np ∷ []) body (key_of v p r)) s₂ (7 + (29 + length (drop a v) + length (drop b p)))
     unfolding branching
-    split_done true place e q w = split_first (sym (rw branches at e)) (rw q at w)
-    split_done false place e q w = split_last (sym (rw branches at e)) (rw q at w)
+    split_done dimension m true place e q w = split_first (sym (rw m at e)) (rw q at w)
+    split_done dimension m false place e q w = split_last (sym (rw m at e)) (rw q at w)
 
 pub resized : {s own s' : List ℕ} {at next used r r' : ℕ} → Replaced s at next used own s' r → r ≡ r' → Replaced s at next used own s' r'
 resized {next = next} c e = record { is = c.is; long = c.long ∙ ap (λ (n : ℕ). next + n) e }

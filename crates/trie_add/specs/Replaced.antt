@@ -1,10 +1,12 @@
 -- What an addition makes of bytes: a stretch is replaced by a longer one, and what stands behind moves on. Assumes nothing: these are definitions.
-use Rattle.std.specs.Prelude.{ℕ, suc, ◌+◌, ◌-◌, ◌≤◌, ◌≡◌, cond, List, [], ◌∷◌, ◌++◌, length, drop, ltb}
+use Rattle.std.specs.Prelude.{ℕ, suc, ◌+◌, ◌-◌, ◌≤◌, ◌≡◌, cond, List, [], ◌∷◌, ◌++◌, length, drop, ltb, Some}
 use Rattle.buffer.specs.Splice.{splice, region}
 use Rattle.trie_theory.specs.Forest.{Strings, Key, none}
 use Rattle.trie_theory.specs.Strings.{common, commons, strip, remains, first}
 use Rattle.trie_theory.specs.Dimensions.{Above, branching}
 use Rattle.trie_read.specs.Shape.{above_of}
+use Rattle.trie_read.specs.Kinds.{kind_of_byte}
+use Rattle.trie_read.specs.declared.kind.Kind.TheVariants.{Inner}
 use Rattle.trie_theory.specs.SmallTrie.{new_leaf, differing}
 use Rattle.trie_theory.specs.Encode.{encode, node_bytes}
 use Rattle.trie_add.specs.declared.split.Cut.{Cut}
@@ -28,10 +30,9 @@ split_bytes above kind s body x =
 pub record CutFor (above : Above) (nv np v p : List ℕ) (c : Cut) : Type 0 where
   pub in_value : c.value ≡ length (common nv v)
   pub in_path : c.path ≡ length (common np p)
-  pub branches : c.kind ≡ suc (differing above (drop c.value nv ∷ drop c.path np ∷ []))
-  pub before : c.first ≡ ltb (branching (above_of c.kind) (drop c.value v ∷ drop c.path p ∷ [])) (branching (above_of c.kind) (drop c.value nv ∷ drop c.path np ∷ []))
+  pub branches : Inner c.dimension ≡ kind_of_byte (suc (differing above (drop c.value nv ∷ drop c.path np ∷ [])))
+  pub before : c.first ≡ ltb (branching (above_of (Some c.dimension)) (drop c.value v ∷ drop c.path p ∷ [])) (branching (above_of (Some c.dimension)) (drop c.value nv ∷ drop c.path np ∷ []))
   pub node_value : c.value ≤ length nv
   pub node_path : c.path ≤ length np
   pub key_value : c.value ≤ length v
   pub key_path : c.path ≤ length p
-  pub two : c.kind ≤ 2

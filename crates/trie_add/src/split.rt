@@ -1,18 +1,21 @@
 // A node whose strings differ from the key gets a new parent, and the parent a new leaf.
-ghost use Rattle.std.specs.Prelude.{◌≡◌, ◌+◌, ◌-◌, ◌≤◌, ◌<◌, cond, [], ◌∷◌, ◌++◌, length, take, drop, ltb};
+ghost use Rattle.std.specs.Prelude.{◌≡◌, ◌+◌, ◌-◌, ◌≤◌, ◌<◌, [], ◌∷◌, ◌++◌, length, take, drop, ltb, Some};
 ghost use Rattle.buffer.specs.Splice.{splice, region};
 ghost use Rattle.trie_theory.specs.Dimensions.{branching};
 ghost use Rattle.buffer.specs.Sizes.{reference_size, four_byte_limit};
 ghost use Rattle.trie_read.specs.Sizes.{head_size};
 ghost use Rattle.trie_add.specs.Sizes.{growth_size, fronts_size};
 ghost use Rattle.trie_read.specs.Shape.{above_of, key_of, part};
+ghost use Rattle.trie_read.specs.Kinds.{byte_of_kind};
 ghost use Rattle.trie_read.specs.Heads.{front};
+ghost use Rattle.trie_read.specs.declared.kind.Kind.TheVariants.{Inner};
 ghost use Rattle.trie_add.specs.Replaced.{Replaced, CutFor, split_bytes};
 
+use trie_read::kind::{Dimension, Kind};
 use trie_read::sizes::{HEAD_SIZE, LEAF_SIZE};
 use trie_read::strings::{branch_byte, common_length};
 use trie_write::insert::{insert_leaf, replace_front};
-use trie_write::split::split_kind;
+use trie_write::split::split_dimension;
 use trie_write::write::put_front;
 
 // Two fronts take no more: their strings are those of one node.
@@ -25,53 +28,47 @@ fn put_fronts(
     path: &[u8],
     a: usize,
     b: usize,
-    up: u8,
+    up: Dimension,
     size: u32,
-    kind: u8,
+    kind: Kind,
     own: u32,
 )
     requires { (a ≤ length value.now) × (b ≤ length path.now) × (length value.now < 256) × (length path.now < 256) × (fronts_size ≤ length new.old) }
-    ensures { new.new ≡ splice new.old 0 (front up (take a value.now ∷ take b path.now ∷ []) size ++ front kind (drop a value.now ∷ drop b path.now ∷ []) own) }
+    ensures { new.new ≡ splice new.old 0 (front (byte_of_kind (Inner up)) (take a value.now ∷ take b path.now ∷ []) size ++ front (byte_of_kind kind) (drop a value.now ∷ drop b path.now ∷ []) own) }
 {
-    put_front(new, 0, up, &value[0..a], &path[0..b], size);
+    put_front(new, 0, Kind::Inner(up), &value[0..a], &path[0..b], size);
     put_front(new, HEAD_SIZE + a + b, kind, &value[a..], &path[b..], own);
 }
 
-// How a node is cut: the new parent takes so many bytes of its value and path string and has this kind; does the new leaf stand before it?
+// How a node is cut: the new parent takes so many bytes of its value and path string and branches so; does the new leaf stand before it?
 #[derive(Clone, Copy)]
 pub struct Cut {
     pub value: usize,
     pub path: usize,
-    pub kind: usize,
+    pub dimension: Dimension,
     pub first: bool,
 }
 
-fn leaf_first(kind: usize, value: &[u8], path: &[u8], nv: &[u8], np: &[u8]) -> bool
-    ensures { result ≡ ltb (branching (above_of kind) (value.now ∷ path.now ∷ [])) (branching (above_of kind) (nv.now ∷ np.now ∷ [])) }
+fn leaf_first(dimension: Dimension, value: &[u8], path: &[u8], nv: &[u8], np: &[u8]) -> bool
+    ensures { result ≡ ltb (branching (above_of (Some dimension)) (value.now ∷ path.now ∷ [])) (branching (above_of (Some dimension)) (nv.now ∷ np.now ∷ [])) }
 {
-    branch_byte(kind, value, path) < branch_byte(kind, nv, np)
+    branch_byte(Some(dimension), value, path) < branch_byte(Some(dimension), nv, np)
 }
 
-// A node has the strings nv and np, and the node above it the kind `above`.
-fn cut_for(above: usize, nv: &[u8], np: &[u8], value: &[u8], path: &[u8]) -> Cut
+// A node has the strings nv and np, and the node above it branches in `above`.
+fn cut_for(above: Option<Dimension>, nv: &[u8], np: &[u8], value: &[u8], path: &[u8]) -> Cut
     ensures { CutFor (above_of above) nv.now np.now value.now path.now result }
 {
     let a = common_length(nv, value);
     let b = common_length(np, path);
-    let kind = split_kind(above, &nv[a..], &np[b..]);
-    let first = leaf_first(kind, &value[a..], &path[b..], &nv[a..], &np[b..]);
+    let dimension = split_dimension(above, &nv[a..], &np[b..]);
+    let first = leaf_first(dimension, &value[a..], &path[b..], &nv[a..], &np[b..]);
     Cut {
         value: a,
         path: b,
-        kind,
+        dimension,
         first,
     }
-}
-
-fn choose(first: bool, a: usize, b: usize) -> usize
-    ensures { result ≡ cond first a b }
-{
-    if first { a } else { b }
 }
 
 // Puts the front of the new parent, whose body has `size` bytes, in front of the node.
@@ -83,16 +80,15 @@ fn put_parent(
     used: usize,
     c: Cut,
     size: u32,
-    kind: u8,
+    kind: Kind,
     own: u32,
 )
     requires head_size_bound { (at + head_size ≤ start) × (start ≤ body) × (body ≤ used) × (used + head_size ≤ length s.old) × (start < at + head_size + 256) × (body < start + 256) }
-    requires value_bound { (at + head_size + c.value ≤ start) × (start + c.path ≤ body) × (c.kind ≤ 2) }
-    ensures { s.new ≡ splice s.old at ((front c.kind (take c.value (part (at + head_size) start s.old) ∷ take c.path (part start body s.old) ∷ []) size ++ front kind (drop c.value (part (at + head_size) start s.old) ∷ drop c.path (part start body s.old) ∷ []) own) ++ region s.old body (used - body)) }
+    requires value_bound { (at + head_size + c.value ≤ start) × (start + c.path ≤ body) }
+    ensures { s.new ≡ splice s.old at ((front (byte_of_kind (Inner c.dimension)) (take c.value (part (at + head_size) start s.old) ∷ take c.path (part start body s.old) ∷ []) size ++ front (byte_of_kind kind) (drop c.value (part (at + head_size) start s.old) ∷ drop c.path (part start body s.old) ∷ []) own) ++ region s.old body (used - body)) }
 {
     let from = at + HEAD_SIZE;
     let fronts = body - at + HEAD_SIZE;
-    let up = c.kind as u8;
     let mut new = [0u8; FRONTS];
     put_fronts(
         &mut new,
@@ -100,7 +96,7 @@ fn put_parent(
         &s[start..body],
         c.value,
         c.path,
-        up,
+        c.dimension,
         size,
         kind,
         own,
@@ -113,20 +109,20 @@ fn put_parent(
 pub fn split(
     s: &mut [u8],
     at: usize,
-    kind: usize,
+    kind: Kind,
     start: usize,
     body: usize,
     next: usize,
     used: usize,
-    above: usize,
+    above: Option<Dimension>,
     value: &[u8],
     path: &[u8],
     reference: &[u8],
 ) -> usize
     requires head_size_bound { (at + head_size ≤ start) × (start ≤ body) × (body ≤ next) × (next ≤ used) × (used + growth_size + length value.now + length path.now ≤ length s.old) × (length s.old < four_byte_limit) }
-    requires kind_bound { (kind < 256) × (start < at + head_size + 256) × (body < start + 256) × (length value.now < 256) × (length path.now < 256) × (length reference.now ≡ reference_size) }
+    requires kind_bound { (start < at + head_size + 256) × (body < start + 256) × (length value.now < 256) × (length path.now < 256) × (length reference.now ≡ reference_size) }
     ensures upper_bound { result ≤ growth_size + length value.now + length path.now }
-    ensures replaced { Replaced s.old at next used (split_bytes (above_of above) kind (part (at + head_size) start s.old ∷ part start body s.old ∷ []) (region s.old body (next - body)) (key_of value.now path.now reference.now)) s.new result }
+    ensures replaced { Replaced s.old at next used (split_bytes (above_of above) (byte_of_kind kind) (part (at + head_size) start s.old ∷ part start body s.old ∷ []) (region s.old body (next - body)) (key_of value.now path.now reference.now)) s.new result }
 {
     let from = at + HEAD_SIZE;
     let c = cut_for(above, &s[from..start], &s[start..body], value, path);
@@ -135,7 +131,11 @@ pub fn split(
     let common = a + b;
     let n = LEAF_SIZE + value.len() + path.len() - common;
     let size = next + n - (at + common);
-    let place = choose(c.first, from + common, next + HEAD_SIZE);
+    let place = if c.first {
+        from + common
+    } else {
+        next + HEAD_SIZE
+    };
     put_parent(
         s,
         at,
@@ -144,7 +144,7 @@ pub fn split(
         used,
         c,
         size as u32,
-        kind as u8,
+        kind,
         (next - body) as u32,
     );
     insert_leaf(

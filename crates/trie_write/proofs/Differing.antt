@@ -8,9 +8,8 @@ use native.Mathlib.Omega.{arith}
 use lib.ListN.{length}
 use lib.Dec.{ltb}
 use borrow.Author.Tests.{lt-ltb, le-ltb, ne_eqb}
-use Rattle.trie_theory.specs.Dimensions.{below, turn, seek, wanted, next}
+use Rattle.trie_theory.specs.Dimensions.{root, below, turn, seek, wanted, next}
 use Rattle.trie_theory.specs.SmallTrie.{chosen, differing}
-use Rattle.trie_read.specs.Shape.{above_of}
 
 -- whether a string has bytes
 abbrev some? : List ℕ → Bool
@@ -22,46 +21,40 @@ module _ (v p : List ℕ) where
   unfolding differing turn seek wanted next
   below_value = refl
 
-  -- elsewhere V
-  elsewhere : (above : ℕ) → above ≤ 2 → (above ≡ 1 → ⊥) → differing (above_of above) (v ∷ p ∷ []) ≡ chosen (cond (some? v) (some 0) (cond (some? p) (some 1) none))
-  unfolding differing turn seek wanted next
-  elsewhere zero h n = refl
-  elsewhere (suc zero) h n = absurd (n refl)
-  elsewhere (suc (suc zero)) h n = refl
-  elsewhere (suc (suc (suc d))) h n = absurd (omega arith)
+  pub path_wanted : 0 < length p → differing (below 0) (v ∷ p ∷ []) ≡ 1
+  unfolding chosen
+  path_wanted h = rw (below_value, lt-ltb 0 (length p) h)
 
-  beyond : (above : ℕ) → 2 < above → 1 ≡ suc (differing (above_of above) (v ∷ p ∷ []))
+  pub value_left : length p ≤ 0 → differing (below 0) (v ∷ p ∷ []) ≡ 0
+  unfolding chosen
+  value_left h = rw (below_value, le-ltb 0 (length p) h) (go (some? v))
+    where
+      go : (b : Bool) → chosen (cond b (some 0) none) ≡ 0
+      go true = refl
+      go false = refl
+
+  -- below a node that branches in neither nothing is wanted
+  pub none_wanted : (d : ℕ) → differing (below (suc (suc d))) (v ∷ p ∷ []) ≡ 0
   unfolding differing turn seek wanted next chosen
-  beyond zero h = absurd (omega arith)
-  beyond (suc zero) h = absurd (omega arith)
-  beyond (suc (suc zero)) h = absurd (omega arith)
-  beyond (suc (suc (suc d))) h = rw (ne_eqb (suc (suc (suc d))) 2 (λ e. omega arith), ne_eqb (suc (suc (suc (suc d)))) 2 (λ e. omega arith))
+  none_wanted d = rw (ne_eqb (suc (suc (suc d))) 2 (λ e. omega arith), ne_eqb (suc (suc (suc (suc d)))) 2 (λ e. omega arith))
 
-  module _ (above : ℕ) where
-    pub path_wanted : above ≡ 1 → 0 < length p → 2 ≡ suc (differing (above_of above) (v ∷ p ∷ []))
-    unfolding chosen
-    path_wanted e h = rw (e, below_value, lt-ltb 0 (length p) h)
+  -- below a node that branches in the path V is wanted, as at the root
+  pub below_path : differing (below 1) (v ∷ p ∷ []) ≡ differing root (v ∷ p ∷ [])
+  unfolding differing turn seek wanted next
+  below_path = refl
 
-    pub value_left : above ≡ 1 → length p ≤ 0 → 1 ≡ suc (differing (above_of above) (v ∷ p ∷ []))
-    unfolding chosen
-    value_left e h = rw (e, below_value, le-ltb 0 (length p) h) (ap suc (zero_either (some? v)))
-      where
-        zero_either : (b : Bool) → 0 ≡ chosen (cond b (some 0) none)
-        zero_either true = refl
-        zero_either false = refl
+  at_root : differing root (v ∷ p ∷ []) ≡ chosen (cond (some? v) (some 0) (cond (some? p) (some 1) none))
+  unfolding differing turn seek wanted next
+  at_root = refl
 
-    pub value_wanted : above ≤ 2 → (above ≡ 1 → ⊥) → 0 < length v → 1 ≡ suc (differing (above_of above) (v ∷ p ∷ []))
-    unfolding chosen
-    value_wanted l n h = rw (elsewhere above l n, lt-ltb 0 (length v) h)
+  pub value_wanted : 0 < length v → differing root (v ∷ p ∷ []) ≡ 0
+  unfolding chosen
+  value_wanted h = rw (at_root, lt-ltb 0 (length v) h)
 
-    pub path_left : above ≤ 2 → (above ≡ 1 → ⊥) → length v ≤ 0 → 0 < length p → 2 ≡ suc (differing (above_of above) (v ∷ p ∷ []))
-    unfolding chosen
-    path_left l n h k = rw (elsewhere above l n, le-ltb 0 (length v) h, lt-ltb 0 (length p) k)
+  pub path_left : length v ≤ 0 → 0 < length p → differing root (v ∷ p ∷ []) ≡ 1
+  unfolding chosen
+  path_left h k = rw (at_root, le-ltb 0 (length v) h, lt-ltb 0 (length p) k)
 
-    pub none_left : above ≤ 2 → (above ≡ 1 → ⊥) → length v ≤ 0 → length p ≤ 0 → 1 ≡ suc (differing (above_of above) (v ∷ p ∷ []))
-    unfolding chosen
-    none_left l n h k = rw (elsewhere above l n, le-ltb 0 (length v) h, le-ltb 0 (length p) k)
-
-    -- no node has such a kind
-    pub no_dimension : 2 < above → 1 ≡ suc (differing (above_of above) (v ∷ p ∷ []))
-    no_dimension h = beyond above h
+  pub none_left : length v ≤ 0 → length p ≤ 0 → differing root (v ∷ p ∷ []) ≡ 0
+  unfolding chosen
+  none_left h k = rw (at_root, le-ltb 0 (length v) h, le-ltb 0 (length p) k)

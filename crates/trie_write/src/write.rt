@@ -7,22 +7,24 @@ ghost use Rattle.trie_theory.specs.SmallTrie.{new_leaf};
 ghost use Rattle.trie_theory.specs.Encode.{encode, suffix_bytes};
 ghost use Rattle.trie_read.specs.Sizes.{head_size, leaf_size};
 ghost use Rattle.trie_read.specs.Shape.{key_of};
+ghost use Rattle.trie_read.specs.Kinds.{byte_of_kind};
 ghost use Rattle.trie_read.specs.Heads.{front};
 
 use buffer::moves::copy_from;
 use buffer::numbers::put32;
+use trie_read::kind::Kind;
 use trie_read::sizes::{HEAD_SIZE, SUFFIX_SIZE};
 
 // The body of a new leaf: a suffix without strings.
 const LEAF_BODY: u32 = SUFFIX_SIZE as u32;
 
 // Writes the bytes of a node before its body of `size` bytes.
-pub fn put_front(s: &mut [u8], at: usize, kind: u8, value: &[u8], path: &[u8], size: u32)
+pub fn put_front(s: &mut [u8], at: usize, kind: Kind, value: &[u8], path: &[u8], size: u32)
     requires { (at + head_size + length value.now + length path.now ≤ length s.old) × (length value.now < 256) × (length path.now < 256) }
-    ensures { s.new ≡ splice s.old at (front kind (value.now ∷ path.now ∷ []) size) }
+    ensures { s.new ≡ splice s.old at (front (byte_of_kind kind) (value.now ∷ path.now ∷ []) size) }
 {
     let n = value.len();
-    s[at] = kind;
+    s[at] = u8::from(kind);
     s[at + 1] = n as u8;
     s[at + 2] = path.len() as u8;
     put32(s, at + 3, size);
@@ -49,6 +51,6 @@ pub fn put_leaf(s: &mut [u8], at: usize, value: &[u8], path: &[u8], reference: &
     ensures { s.new ≡ splice s.old at (encode (new_leaf (key_of value.now path.now reference.now) none)) }
 {
     let body = at + HEAD_SIZE + value.len() + path.len();
-    put_front(s, at, 0, value, path, LEAF_BODY);
+    put_front(s, at, Kind::Leaf, value, path, LEAF_BODY);
     put_suffix(s, body, &value[0..0], &path[0..0], reference);
 }

@@ -1,6 +1,8 @@
 -- One addition, three functions that call each other: `depth` falls.
 use native.Mathlib.Omega.{arith}
-use mathlib.Core.Path.{◌≡◌, sym, ◌∙◌}
+use mathlib.Core.Path.{◌≡◌, sym, ap, ◌∙◌}
+use Rattle.std.specs.Prelude.{Ok}
+use Rattle.trie_read.specs.declared.place.Place.TheVariants.{Node, Gap}
 use lib.ListN.{length}
 use Rattle.trie_read.specs.Shape.{part, key_of}
 use Rattle.trie_read.proofs.Stretch.{length_part}
@@ -27,28 +29,10 @@ agreed t c =
     let l = on_lengths (part (a.node + 7) a.start a.s.now) (part a.start a.body a.s.now) a.value.now a.path.now (sym c.agrees.ensures ∙ c.if-agrees.true) in
     (omega (arith, l, length_part a.s.now (a.node + 7) a.start (omega (arith, pre))), omega (arith, l, length_part a.s.now a.start a.body (omega (arith, pre))))
 
-pub add-overflow_add-off : goal.add-overflow_add-off
-add-overflow_add-off t c = let f = c.in-Node.ensures.fits in let l = long t (goal.at.add-overflow_add-off t c).Start in omega (arith, f, l, c.requires.off_le_stop)
-
-pub add-overflow_add-off-in-Node : goal.add-overflow_add-off-in-Node
-add-overflow_add-off-in-Node t c = let f = c.in-Node.ensures.fits in let l = long t (goal.at.add-overflow_add-off-in-Node t c).Start in omega (arith, f, l, c.requires.off_le_stop)
-
-pub add-overflow_add-off-in-Node-2 : goal.add-overflow_add-off-in-Node-2
-add-overflow_add-off-in-Node-2 t c = let f = c.in-Node.ensures.fits in let l = long t (goal.at.add-overflow_add-off-in-Node-2 t c).Start in omega (arith, f, l, c.requires.off_le_stop)
-
-pub add-overflow_add-off-in-Node-3 : goal.add-overflow_add-off-in-Node-3
-add-overflow_add-off-in-Node-3 t c = let f = c.in-Node.ensures.fits in let l = long t (goal.at.add-overflow_add-off-in-Node-3 t c).Start in omega (arith, f, l, c.requires.off_le_stop)
-
-pub add-visit_node-requires : goal.add-visit_node-requires
-add-visit_node-requires t c =
-    let f = c.in-Node.ensures.fits in
-    let l = long t (goal.at.add-visit_node-requires t c).Start in
-    let pre = c.requires in
-    (omega (arith, pre.off_le_stop), ((omega (arith, f), omega (arith, f), omega (arith, f), omega (arith, f, l, pre.off_le_stop), pre.off_le_stop.2, pre.off_le_stop.3), (f.4, omega (arith, f), omega (arith, f), pre.value_len_bound.0, pre.value_len_bound.1, pre.value_len_bound.2)))
-
 pub add-returns-in-Node : goal.add-returns-in-Node
 add-returns-in-Node t c =
-    let f = c.in-Node.ensures.fits in
+    let q : c.find.result ≡ Ok (Node c.in-Node.at c.in-Node.kind c.in-Node.start c.in-Node.body c.in-Node.next) = c.in-Ok.is ∙ ap Ok c.in-Node.is in
+    let f = rw q at c.find.ensures.fits in
     let l = long t (goal.at.add-returns-in-Node t c).Start in
     let a = c.args in
     let pre = c.requires in
@@ -56,23 +40,14 @@ add-returns-in-Node t c =
     record {
       little = ad.little;
       are = λ g w asc h e.
-          let here = rw c.in-Node.is at (c.find.ensures.found g w asc e) in
+          let here = rw q at (c.find.ensures.found g w asc e) in
           added_node a.s.now a.off a.stop a.used a.above a.depth a.value.now a.path.now a.reference.now (omega (arith, pre.off_le_stop)) (omega (arith, pre.off_le_stop))
           _ _ _ _ _ _ _ g (omega (arith, pre.off_le_stop, ad.little)) h f.0 f.1 f.2 (omega (arith, f.3, l, pre.off_le_stop)) l here ad;
     }
 
-pub add-overflow_add-off-in-Gap : goal.add-overflow_add-off-in-Gap
-add-overflow_add-off-in-Gap t c = let g = c.in-Gap.ensures.fits in let l = long t (goal.at.add-overflow_add-off-in-Gap t c).Start in omega (arith, g, l, c.requires.off_le_stop)
-
-pub add-insert_leaf-requires : goal.add-insert_leaf-requires
-add-insert_leaf-requires t c =
-    let g = c.in-Gap.ensures.fits in
-    let l = long t (goal.at.add-insert_leaf-requires t c).Start in
-    let pre = c.requires in
-    (omega (arith, g, l, pre.off_le_stop), omega (arith, pre.off_le_stop), pre.value_len_bound.0, pre.value_len_bound.1, pre.value_len_bound.2)
-
 pub add-returns-in-Gap : goal.add-returns-in-Gap
 add-returns-in-Gap t c =
+    let q : c.find.result ≡ Ok (Gap c.in-Gap.at) = c.in-Ok.is ∙ ap Ok c.in-Gap.is in
     let l = long t (goal.at.add-returns-in-Gap t c).Start in
     let a = c.args in
     let pre = c.requires in
@@ -81,23 +56,17 @@ add-returns-in-Gap t c =
     record {
       little = omega (arith, put.value);
       are = λ g w asc h e.
-          let passed = rw c.in-Gap.is at (c.find.ensures.found g w asc e) in
+          let passed = rw q at (c.find.ensures.found g w asc e) in
           added_gap a.s.now a.off a.stop a.used a.above a.depth a.value.now a.path.now a.reference.now (omega (arith, pre.off_le_stop)) (omega (arith, pre.off_le_stop))
           _ _ _ g (omega (arith, pre.off_le_stop, put.value)) l (put.value ∙ sym n) passed put.s_after;
     }
 
-pub add-returns-in-Bad : goal.add-returns-in-Bad
-add-returns-in-Bad t c = record { little = omega arith; are = λ g w asc h e. absurd (rw c.in-Bad.is at (c.find.ensures.found g w asc e)) }
-
 -- ---- extend_body
-pub extend_body-returns-then-kind-eq0 : goal.extend_body-returns-then-kind-eq0
-extend_body-returns-then-kind-eq0 t c = rw c.if-kind-eq0.true (c.add_suffix.ensures _)
+pub extend_body-returns-in_default : goal.extend_body-returns-in_default
+extend_body-returns-in_default t c = rw c.in_default.is (c.add_suffix.ensures _)
 
 pub extend_body-returns-then-depth-eq0 : goal.extend_body-returns-then-depth-eq0
 extend_body-returns-then-depth-eq0 t c = record { little = omega arith; are = λ f above w asc h k n e b. absurd (omega (arith, height_some f n, h, c.if-depth-eq0.true)) }
-
-pub extend_body-add-n-requires : goal.extend_body-add-n-requires
-extend_body-add-n-requires t c = (omega (arith, c.if-depth-eq0.false), ((c.requires.head_size_bound.1, c.requires.head_size_bound.2, c.requires.head_size_bound.3, c.requires.head_size_bound.4), c.requires.value_len_bound))
 
 pub extend_body-returns : goal.extend_body-returns
 extend_body-returns t c =
@@ -107,9 +76,10 @@ extend_body-returns t c =
     record {
       little = ad.little;
       are = λ f above w asc h k n e b.
-          inner_grown a.s.now _ _ a.node a.kind a.body a.next a.used a.depth _ (key_of a.value.now a.path.now a.reference.now) f above w asc h k c.if-kind-eq0.false n e b (omega (arith, pre.head_size_bound)) pre.head_size_bound.1 pre.head_size_bound.2 (omega (arith, pre.head_size_bound, ad.little)) ad c.put32.ensures;
+          inner_grown a.s.now _ _ a.node c.in-Inner.dimension a.body a.next a.used a.depth _ (key_of a.value.now a.path.now a.reference.now) f above w asc h (sym c.in-Inner.is ∙ k) n e b (omega (arith, pre.head_size_bound)) pre.head_size_bound.1 pre.head_size_bound.2 (omega (arith, pre.head_size_bound, ad.little)) ad c.put32.ensures;
     }
 
+-- ---- visit_node
 pub visit_node-slice_bounds-extend_body-count : goal.visit_node-slice_bounds-extend_body-count
 visit_node-slice_bounds-extend_body-count t c = (agreed t (goal.at.visit_node-slice_bounds-extend_body-count t c).Then-agrees).0
 
@@ -125,7 +95,7 @@ visit_node-slice_bounds-extend_body-start-then-agrees t c = (agreed t (goal.at.v
 pub visit_node-extend_body-requires : goal.visit_node-extend_body-requires
 visit_node-extend_body-requires t c =
     let pre = c.requires in
-    (omega (arith, pre.head_size_bound), ((omega (arith, pre.head_size_bound), pre.head_size_bound.2, pre.head_size_bound.3, omega (arith, pre.head_size_bound), pre.head_size_bound.5), (omega (arith, pre.kind_bound), omega (arith, pre.kind_bound), pre.kind_bound.5)))
+    (omega (arith, pre.head_size_bound), ((omega (arith, pre.head_size_bound), pre.head_size_bound.2, pre.head_size_bound.3, omega (arith, pre.head_size_bound), pre.head_size_bound.5), (omega (arith, pre.kind_bound), omega (arith, pre.kind_bound), pre.kind_bound.4)))
 
 pub visit_node-returns-then-agrees : goal.visit_node-returns-then-agrees
 visit_node-returns-then-agrees t c =

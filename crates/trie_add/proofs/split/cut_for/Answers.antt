@@ -7,7 +7,7 @@ returns c =
     let a = c.args in
     let n = c.common_length-a in
     let m = c.common_length-b in
-    let k = c.split_kind-kind in
+    let k = c.split_dimension-dimension in
     let nv = part_from a.nv.now n.result in
     let np = part_from a.np.now m.result in
     let v = part_from a.value.now n.result in
@@ -21,5 +21,4 @@ returns c =
       node_path = m.ensures.1;
       key_value = n.ensures.2;
       key_path = m.ensures.2;
-      two = k.ensures.upper_bound;
     }

@@ -40,12 +40,13 @@ returns c =
     let s = a.s.now in
     let v = a.value.now in
     let p = a.path.now in
-    let three = a.kind ∷ length v ∷ length p ∷ [] in
+    let k = c.from.result in
+    let three = k ∷ length v ∷ length p ∷ [] in
     let seven = three ++ bytes_of 4 a.size in
     let l7 = length-append three (bytes_of 4 a.size) in
     let l4 = length_bytes_of 4 a.size in
     let lv = length-append seven v in
-    let head = set_3 s a.at a.kind (length v) (length p) (omega arith) in
+    let head = set_3 s a.at k (length v) (length p) (omega arith) in
     let sized = c.put32.ensures ∙ splice_then _ s a.at three _ _ head (omega arith) (omega arith) in
     let valued = c.copy_from.ensures ∙ splice_then _ s a.at seven _ v sized (omega arith) (omega arith) in
-    c.copy_from-2.ensures ∙ splice_then _ s a.at (seven ++ v) _ p valued (omega arith) (omega arith) ∙ ap (splice s a.at) (front_parts a.kind v p a.size)
+    c.copy_from-2.ensures ∙ splice_then _ s a.at (seven ++ v) _ p valued (omega arith) (omega arith) ∙ ap (splice s a.at) (front_parts k v p a.size ∙ ap (λ (b : ℕ). front b (v ∷ p ∷ []) a.size) c.from.ensures)
