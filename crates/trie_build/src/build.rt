@@ -7,8 +7,8 @@ ghost use Rattle.entries.specs.Slots.{slot_size, slot_key};
 ghost use Rattle.trie_theory.specs.Level.{level_of};
 ghost use Rattle.trie_theory.specs.Encode.{encode, suffix_bytes};
 ghost use Rattle.trie_read.specs.Kinds.{number_of};
+ghost use Rattle.trie_read.specs.Shape.{above_of};
 ghost use Rattle.trie_sets.specs.Sets.{keys_of, short_paths, slots_of};
-ghost use Rattle.trie_sets.specs.Positions.{up_of};
 ghost use Rattle.trie_build.specs.Build.{trie_room, Built};
 ghost use Rattle.trie_build.specs.Nodes.{rest, rests_bytes, Behind};
 ghost use Rattle.trie_build.specs.Steps.{Ready, trie_bytes, column_of, Run, Opened};
@@ -55,15 +55,15 @@ fn open_node(
     above: Option<Dimension>,
     known: Shared,
 ) -> Shape
-    requires { Ready (length out.old) (slots_of slots.now) tau (up_of above) known.value known.path }
-    ensures { Opened out.old (slots_of slots.now) tau (up_of above) known.value known.path out.new result.kind result.shared.value result.shared.path }
+    requires { Ready (length out.old) (slots_of slots.now) tau (above_of above) known.value known.path }
+    ensures { Opened out.old (slots_of slots.now) tau (above_of above) known.value known.path out.new result.kind result.shared.value result.shared.path }
 {
     let shape = split(slots, tau, above, known);
     let (set, _) = slots.as_chunks::<SLOT_SIZE>();
     let slot = &set[0];
     let value = &slot[known.value..shape.shared.value];
     let path = &slot[PATH_AT + known.path..PATH_AT + shape.shared.path];
-    put_front(out, 0, u8::from(shape.kind), value, path, 0);
+    put_front(out, 0, shape.kind, value, path, 0);
     shape
 }
 
@@ -108,8 +108,8 @@ fn build(
     above: Option<Dimension>,
     known: Shared,
 ) -> usize
-    requires { Ready (length out.old) (slots_of slots.old) tau (up_of above) known.value known.path × (length slots.old ≡ length (slots_of slots.old) * slot_size) × (length slots.old ≤ length scratch.old) }
-    ensures { (out.new ≡ splice out.old 0 (trie_bytes tau (up_of above) known.value known.path (map slot_key (slots_of slots.old)))) × (result ≡ length (trie_bytes tau (up_of above) known.value known.path (map slot_key (slots_of slots.old)))) }
+    requires { Ready (length out.old) (slots_of slots.old) tau (above_of above) known.value known.path × (length slots.old ≡ length (slots_of slots.old) * slot_size) × (length slots.old ≤ length scratch.old) }
+    ensures { (out.new ≡ splice out.old 0 (trie_bytes tau (above_of above) known.value known.path (map slot_key (slots_of slots.old)))) × (result ≡ length (trie_bytes tau (above_of above) known.value known.path (map slot_key (slots_of slots.old)))) }
 {
     let shape = open_node(out, slots, tau, above, known);
     let shared = shape.shared;

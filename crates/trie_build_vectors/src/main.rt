@@ -6,8 +6,9 @@
 ghost use Rattle.std.specs.Prelude.{◌≡◌, ◌<◌, ◌≤◌, true, length};
 ghost use Rattle.buffer.specs.Lists.{all};
 ghost use Rattle.entries.specs.Slots.{slot_size, short_path};
+ghost use Rattle.trie_read.specs.Shape.{above_of};
 ghost use Rattle.trie_sets.specs.Sets.{slots_of};
-ghost use Rattle.trie_sets.specs.Positions.{OfTwo, up_of};
+ghost use Rattle.trie_sets.specs.Positions.{OfTwo};
 
 use console::Console;
 use entries::SLOT_SIZE;
@@ -40,7 +41,7 @@ fn print_position(console: &mut Console, shared: usize) {
 }
 
 fn print_split(console: &mut Console, slots: &[u8], tau: usize, above: Option<Dimension>)
-    requires { (0 < length (slots_of slots.now)) × OfTwo (up_of above) × (all short_path (slots_of slots.now) ≡ true) }
+    requires { (0 < length (slots_of slots.now)) × OfTwo (above_of above) × (all short_path (slots_of slots.now) ≡ true) }
 {
     let shape = split(slots, tau, above, Shared { value: 0, path: 0 });
     console.print_decimal(u64::from(u8::from(shape.kind)));
@@ -56,7 +57,7 @@ fn level(
     tau: usize,
     above: Option<Dimension>,
 )
-    requires { (n ≤ MOST) × OfTwo (up_of above) }
+    requires { (n ≤ MOST) × OfTwo (above_of above) }
 {
     let end = SLOTS + n * SLOT_SIZE;
     if !paths_are_short(&s[SLOTS..end]) {

@@ -1,6 +1,5 @@
 -- What the functions that look for positions promise. Assumes nothing: these are definitions.
 use Rattle.std.specs.Prelude.{ℕ, zero, suc, ◌+◌, ◌≤◌, ◌<◌, ◌≡◌, Bool, List, [], length, get_or}
-use Rattle.std.specs.Prelude as prelude
 use Rattle.std.proofs.Math.Option.{Option, none, some}
 use Rattle.rows.specs.Sizes.{length_at}
 use Rattle.trie_theory.specs.Forest.{Key}
@@ -9,13 +8,8 @@ use Rattle.trie_theory.specs.Dimensions.{Above, root, below}
 use Rattle.trie_theory.specs.Position.{shared}
 use Rattle.trie_theory.specs.Level.{choice}
 use Rattle.trie_read.specs.Kinds.{number_of}
-use Rattle.trie_read.specs.declared.kind.Dimension.{Dimension}
 use Rattle.trie_read.specs.declared.kind.Kind.{Kind}
 use Rattle.trie_read.specs.declared.kind.Kind.TheVariants.{Leaf, Inner}
-
-abbrev pub up_of : prelude.Option Dimension → Above
-up_of prelude.None = root
-up_of (prelude.Some d) = below (number_of d)
 
 -- byte i of slot k
 abbrev pub slot_byte : List (List ℕ) → ℕ → ℕ → ℕ

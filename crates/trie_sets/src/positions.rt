@@ -7,8 +7,9 @@ ghost use Rattle.entries.specs.Slots.{slot_size, slot_key, short_path};
 ghost use Rattle.trie_theory.specs.Dimensions.{turn};
 ghost use Rattle.trie_theory.specs.Strings.{at};
 ghost use Rattle.trie_theory.specs.Position.{shared};
+ghost use Rattle.trie_read.specs.Shape.{above_of};
 ghost use Rattle.trie_sets.specs.Sets.{slots_of};
-ghost use Rattle.trie_sets.specs.Positions.{Alike, Least, passes, branch_of, OfTwo, Split, up_of};
+ghost use Rattle.trie_sets.specs.Positions.{Alike, Least, passes, branch_of, OfTwo, Split};
 
 use entries::{SLOT_SIZE, Slot};
 use matcher::bytes::PATH_LIMIT;
@@ -53,8 +54,8 @@ fn common_bytes(slots: &[Slot], start: usize, from: usize, limit: usize) -> usiz
 // What a node is whose keys differ in the value or in the path: it branches in the first dimension, from the wanted one on, in which they do.
 #[tactic(auto, using(crate::proofs::Turning::turn_path, crate::proofs::Turning::turn_value))]
 fn kind_of_set(above: Option<Dimension>, value: bool, path: bool) -> Kind
-    requires { OfTwo (up_of above) }
-    ensures { branch_of result ≡ turn (passes value path) 2 (up_of above) }
+    requires { OfTwo (above_of above) }
+    ensures { branch_of result ≡ turn (passes value path) 2 (above_of above) }
 {
     match above {
         Some(Dimension::Value) if path => Kind::Inner(Dimension::Path),
@@ -82,8 +83,8 @@ pub struct Shape {
 
 // The bytes in `known`, those that the node above knows, are known to be shared.
 pub fn split(slots: &[u8], tau: usize, above: Option<Dimension>, known: Shared) -> Shape
-    requires { (0 < length (slots_of slots.now)) × OfTwo (up_of above) × (all short_path (slots_of slots.now) ≡ true) × (known.value ≤ length (at 0 (shared (map slot_key (slots_of slots.now))))) × (known.path ≤ length (at 1 (shared (map slot_key (slots_of slots.now))))) }
-    ensures { Split tau (up_of above) (map slot_key (slots_of slots.now)) result.kind result.shared.value result.shared.path }
+    requires { (0 < length (slots_of slots.now)) × OfTwo (above_of above) × (all short_path (slots_of slots.now) ≡ true) × (known.value ≤ length (at 0 (shared (map slot_key (slots_of slots.now))))) × (known.path ≤ length (at 1 (shared (map slot_key (slots_of slots.now))))) }
+    ensures { Split tau (above_of above) (map slot_key (slots_of slots.now)) result.kind result.shared.value result.shared.path }
 {
     let (set, _) = slots.as_chunks();
     let ends = usize::from(least_path(set)) + 1;

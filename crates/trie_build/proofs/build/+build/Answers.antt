@@ -43,14 +43,15 @@ returns-in_default t c =
 
 -- where the next part ends
 within : (t : ℕ) (c : At-loop-rest t) → let b = 7 + (c.open_node-shape.result.shared.value - c.args.known.value) + (c.open_node-shape.result.shared.path - c.args.known.path) in
-    (b ≤ c.loop-rest.end) × (c.loop-rest.end ≤ length c.args.out.now) × (length c.loop-rest.out ≡ length c.args.out.now)
+    (b ≤ c.loop-rest.end) × (c.loop-rest.end ≤ length c.loop-rest.out) × (length c.loop-rest.out ≡ length c.args.out.now)
 within t c =
     let a = c.requires.0 in
     let o = c.open_node-shape.ensures in
     let g = c.loop-rest.invariant.0 in
     let i = law.inner_within a o c.in-Inner.dimension c.in-Inner.is _ _ _ g in
     let l = law.opened_long a o in
-    (i.0, omega (arith, i.1), law.inner_long a o c.in-Inner.dimension c.in-Inner.is _ _ _ g ∙ l)
+    let k = law.inner_long a o c.in-Inner.dimension c.in-Inner.is _ _ _ g in
+    (i.0, omega (arith, i.1), k ∙ l)
 
 -- the slots of the part, and the others
 cut : (t : ℕ) (c : After-split_at_mut-part t) → let p = c.split_at_mut-part.result in
@@ -95,6 +96,9 @@ loop-rest-init t c =
 
 pub slice_bounds-build-count : goal.slice_bounds-build-count
 slice_bounds-build-count t c = omega (arith, within t (goal.at.slice_bounds-build-count t c).At-loop-rest)
+
+pub slice_bounds-build-start : goal.slice_bounds-build-start
+slice_bounds-build-start t c = (within t (goal.at.slice_bounds-build-start t c).At-loop-rest).1
 
 pub build-end-requires : goal.build-end-requires
 build-end-requires t c =

@@ -33,4 +33,4 @@ returns c =
     let rs = slots_of c.args.slots.now in
     let e = c.as_chunks.ensures.front ∙ chunks_slots c.args.slots.now in
     let w = node_strings rs (slots_whole c.args.slots.now) c.requires c.split-shape.ensures in
-    record { split = c.split-shape.ensures; is = rw (e, w.0, w.1, c.from.ensures) at c.put_front.ensures }
+    record { split = c.split-shape.ensures; is = rw (e, w.0, w.1) at c.put_front.ensures }

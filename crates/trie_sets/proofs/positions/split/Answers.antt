@@ -6,8 +6,9 @@ use lib.ListN.{length}
 use lib.Dec.{ltb}
 use mathlib.Core.List.{map}
 use Rattle.entries.specs.Slots.{slot_size, slot_key}
+use Rattle.trie_read.specs.Shape.{above_of}
 use Rattle.trie_sets.specs.Sets.{slots_of}
-use Rattle.trie_sets.specs.Positions.{slot_byte, Least, up_of}
+use Rattle.trie_sets.specs.Positions.{slot_byte, Least}
 use Rattle.rows.specs.Sizes.{value_size, path_at}
 use Rattle.trie_theory.specs.Strings.{at}
 use Rattle.trie_theory.specs.Position.{shared, differ}
@@ -78,8 +79,8 @@ returns c =
     record {
       kind_is = elim c.if-set-tau.branch [
         | then-set-tau w ↦
-            rw w.kind-is (w.kind_of_set-kind.ensures ∙ law.kind_many a.tau (up_of a.above) rs c.requires.1 _ _ (value_is m).1 (path_is m).1 (rw e at w.if-set-tau.true))
-        | else-set-tau w ↦ rw w.kind-is (law.kind_few a.tau (up_of a.above) rs (rw e at w.if-set-tau.false))
+            rw w.kind-is (w.kind_of_set-kind.ensures ∙ law.kind_many a.tau (above_of a.above) rs c.requires.1 _ _ (value_is m).1 (path_is m).1 (rw e at w.if-set-tau.true))
+        | else-set-tau w ↦ rw w.kind-is (law.kind_few a.tau (above_of a.above) rs (rw e at w.if-set-tau.false))
       ];
       value_is = sym (value_is m).0;
       path_is = sym (path_is m).0;
