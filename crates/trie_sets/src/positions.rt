@@ -21,7 +21,8 @@ pub fn paths_are_short(slots: &[u8]) -> bool
     ensures { result ≡ all short_path (slots_of slots.now) }
 {
     let (set, _) = slots.as_chunks::<SLOT_SIZE>();
-    set.iter().all(|slot| usize::from(slot[LENGTH_AT]) <= PATH_LIMIT)
+    set.iter()
+        .all(|slot| usize::from(slot[LENGTH_AT]) <= PATH_LIMIT)
 }
 
 // The least path length of the slots.
