@@ -1,13 +1,13 @@
 -- Lists of slots: what holds of each, and of all. Assumes nothing.
 use mathlib.Core.Path.{◌≡◌, refl, ap}
 use mathlib.Core.Bool.{Bool, ◌&&◌}
-use Prim.Native.Nat.{ℕ, zero, suc, ◌≤◌, ◌<◌}
+use Prim.Native.Nat.{ℕ, zero, suc, ◌<◌}
 use mathlib.Core.List.{List, [], ◌∷◌, map}
 use native.Mathlib.Omega.{arith}
 use lib.ListN.{length, get_or}
 use Rattle.std.specs.List.{list_all}
 use Rattle.buffer.specs.Lists.{all, All, nil, cons}
-use Rattle.buffer.proofs.Lists.{all_head, all_tail, all_map, all_unmap}
+use Rattle.buffer.proofs.Lists.{all_map, all_unmap}
 use Rattle.entries.specs.Slots.{slot_key}
 use Rattle.trie_theory.specs.Forest.{Key}
 

@@ -1,16 +1,15 @@
 -- From bytes that slots have in common to the discriminative position, in any dimension. Assumes nothing.
-use mathlib.Core.Path.{◌≡◌, refl, sym, ap, ◌∙◌}
+use mathlib.Core.Path.{◌≡◌, refl, sym, ◌∙◌}
 use mathlib.Core.Bool.{Bool, true, false}
-use Prim.Native.Nat.{ℕ, zero, suc, ◌+◌, ◌*◌, ◌≤◌, ◌<◌}
+use Prim.Native.Nat.{ℕ, zero, suc, ◌+◌, ◌≤◌, ◌<◌}
 use mathlib.Core.List.{List, [], ◌∷◌, map}
 use native.Mathlib.Omega.{arith}
-use lib.ListN.{length, get_or, take, drop, length-map}
-use lib.Seq.{get_or-take, get_or-drop, length-take-le, drop-drop}
+use lib.ListN.{length, get_or, take, drop}
+use lib.Seq.{get_or-take, length-take-le}
 use lib.Dec.{ltb}
 use borrow.Author.Tests.{ltb-true, ltb-false, lt-ltb, le-ltb}
-use Rattle.buffer.specs.Lists.{all, All, nil, cons}
-use Rattle.buffer.specs.Splice.{region}
-use Rattle.buffer.proofs.Lists.{all_imp, all_head, all_tail, all_map, all_unmap, all_test, all_tested}
+use Rattle.buffer.specs.Lists.{all, All}
+use Rattle.buffer.proofs.Lists.{all_imp, all_test, all_tested}
 use Rattle.buffer.proofs.Tests.{not_both, not-true}
 use Rattle.entries.specs.Slots.{slot_size, slot_key}
 use Rattle.trie_theory.specs.Forest.{Strings, Key}

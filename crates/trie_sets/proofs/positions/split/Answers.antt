@@ -1,6 +1,6 @@
 -- The two positions decide the kind.
 use native.Mathlib.Omega.{arith}
-use Prim.Native.Nat.{ℕ, ◌+◌, ◌≤◌, ◌<◌}
+use Prim.Native.Nat.{ℕ, ◌+◌, ◌<◌}
 use mathlib.Core.Path.{◌≡◌, sym, ◌∙◌}
 use lib.ListN.{length}
 use lib.Dec.{ltb}
@@ -9,7 +9,7 @@ use Rattle.entries.specs.Slots.{slot_size, slot_key}
 use Rattle.trie_read.specs.Shape.{above_of}
 use Rattle.trie_sets.specs.Sets.{slots_of}
 use Rattle.trie_sets.specs.Positions.{slot_byte, Least}
-use Rattle.rows.specs.Sizes.{value_size, path_at}
+use Rattle.rows.specs.Sizes.{value_size}
 use Rattle.trie_theory.specs.Strings.{at}
 use Rattle.trie_theory.specs.Position.{shared, differ}
 use Rattle.trie_sets.proofs.Slotted.{chunks_slots, slots_small, slots_whole}
