@@ -14,7 +14,7 @@ pub extern "C" fn bench_level(s: &mut [u8], n: usize, tau: usize) -> usize {
     if s.len() < scratch + slots {
         return 0;
     }
-    if trie_sets::positions::paths_are_short(&s[slots..scratch], n) {
+    if trie_sets::positions::paths_are_short(&s[slots..scratch]) {
         return trie_build::build::build_level(s, 0, slots, scratch, n, tau);
     }
     0

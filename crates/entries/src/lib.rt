@@ -1,5 +1,8 @@
-// Entries as the layers above the tries see them: as keys, as rows in slots, and what a query asks of them. Definitions and laws, and one size.
+// Entries as the layers above the tries see them: as keys, as rows in slots, and what a query asks of them. Definitions and laws, and the slot.
 #![tactic(auto)]
 
 // Rows stand this many bytes apart where a level is built: more than a row and an end byte.
 pub const SLOT_SIZE: usize = 256;
+
+// A row with zeros behind it.
+pub type Slot = [u8; SLOT_SIZE];

@@ -22,18 +22,8 @@ use Rattle.trie_theory.proofs.Parts.{flat_parts, differ_all}
 use Rattle.trie_theory.proofs.Differ.{byte_at}
 use Rattle.trie_sets.specs.Partition.{with_byte, by_bytes}
 use Rattle.trie_build.specs.Steps.{column_of}
-use Rattle.trie_sets.proofs.Sharing.{region_get, first_of, first_end}
-
--- the two columns, by cases on the kind
-pub column_path : (kind value path : ℕ) → 2 ≤ kind → path_at + path ≡ column_of kind value path
-column_path zero value path h = absurd (omega arith)
-column_path (suc zero) value path h = absurd (omega arith)
-column_path (suc (suc d)) value path h = refl
-
-pub column_value : (kind value path : ℕ) → kind < 2 → value ≡ column_of kind value path
-column_value zero value path h = refl
-column_value (suc zero) value path h = refl
-column_value (suc (suc d)) value path h = absurd (omega arith)
+use Rattle.trie_sets.proofs.Sharing.{first_of, first_end}
+use Rattle.trie_sets.proofs.Slotted.{region_get}
 
 -- the first byte behind j bytes of a stretch, where there is one
 first_region : (r : List ℕ) (a n j : ℕ) → first zero (drop j (region r a n) ∷ []) < 256 → first zero (drop j (region r a n) ∷ []) ≡ get_or r (a + j) 0
@@ -49,7 +39,7 @@ first_region r a n j h = go (ltb j (length (region r a n))) refl
 
 -- the column in which keys that share p part in dimension d
 abbrev pub column : ℕ → Strings → ℕ
-column d p = column_of (suc d) (length (at 0 p)) (length (at 1 p))
+column d p = column_of d (length (at 0 p)) (length (at 1 p))
 
 -- THE BYTE OF A KEY at a position is the byte of its slot in that column
 pub slot_first : (d : ℕ) (p : Strings) (r : List ℕ) → d < 2 → byte d p (slot_key r) < 256 → byte d p (slot_key r) ≡ get_or r (column d p) 0

@@ -1,4 +1,4 @@
-pub mod Writing
+pub mod Suffixes
 pub mod Wrote
 pub mod Columns
 pub mod Runs

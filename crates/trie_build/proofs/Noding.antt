@@ -9,7 +9,7 @@ use lib.Seq.{length-take-le, take_at}
 use Rattle.buffer.specs.Lists.{flat}
 use Rattle.trie_theory.specs.Forest.{Strings, Key, Forest}
 use Rattle.trie_theory.specs.Strings.{at, strip, remains}
-use Rattle.trie_theory.specs.Dimensions.{root, below}
+use Rattle.trie_theory.specs.Dimensions.{Above, root, below}
 use Rattle.trie_theory.specs.Position.{shared}
 use Rattle.trie_theory.specs.Parts.{parts}
 use Rattle.trie_theory.specs.Level.{choice, node, each, trie, level_of}
@@ -18,9 +18,9 @@ use Rattle.trie_theory.proofs.LevelBytes as levels
 use Rattle.trie_theory.proofs.LevelStep.{trie_step}
 use Rattle.trie_theory.proofs.Prefix.{Prefix, Prefixes}
 use Rattle.trie_theory.proofs.Strings.{drop_prefix}
-use Rattle.trie_read.specs.Shape.{above_of}
+use Rattle.trie_read.specs.Heads.{front}
 use Rattle.entries.specs.Slots.{slot_key}
-use Rattle.trie_build.specs.Nodes.{head_bytes, rest, rests_bytes}
+use Rattle.trie_build.specs.Nodes.{rest, rests_bytes}
 use Rattle.trie_build.specs.Steps.{known, trie_bytes}
 
 -- strings behind the first bytes of them
@@ -33,8 +33,8 @@ strip_known v p (a ∷ b ∷ []) e h l = rw (length-take-le v a h, length-take-l
 strip_known v p (a ∷ b ∷ c ∷ s) e h l = absurd (omega arith)
 
 -- the bytes of a node of two strings
-node_shape : (kind : ℕ) (v p body : List ℕ) → node_bytes kind (v ∷ p ∷ []) body ≡ head_bytes kind (length v) (length p) (length body) ++ ((v ++ p) ++ body)
-unfolding node_bytes flat
+node_shape : (kind : ℕ) (v p body : List ℕ) → node_bytes kind (v ∷ p ∷ []) body ≡ front kind (v ∷ p ∷ []) (length body) ++ body
+unfolding node_bytes flat front
 node_shape kind v p body = simp (append_assoc, append-nil)
 
 -- the bodies
@@ -44,25 +44,25 @@ leaf_body ks = flat (map suffix_bytes (map (remains (shared ks)) ks))
 abbrev pub inner_body : ℕ → ℕ → List Key → List ℕ
 inner_body τ d ks = flat (map (levels.bytes_of 2 τ (below d) (shared ks)) (parts d ks))
 
-module _ (τ above v p : ℕ) (ks : List Key) (wide : length (shared ks) ≡ 2) (h : v ≤ length (at 0 (shared ks))) (l : p ≤ length (at 1 (shared ks))) where
+module _ (τ : ℕ) (above : Above) (v p : ℕ) (ks : List Key) (wide : length (shared ks) ≡ 2) (h : v ≤ length (at 0 (shared ks))) (l : p ≤ length (at 1 (shared ks))) where
   abbrev value : List ℕ
   value = drop v (at 0 (shared ks))
 
   abbrev path : List ℕ
   path = drop p (at 1 (shared ks))
 
-  pub leaf_node : choice 2 τ (above_of above) ks ≡ none
-      → trie_bytes τ above v p ks ≡ head_bytes 0 (length value) (length path) (length (leaf_body ks)) ++ ((value ++ path) ++ leaf_body ks)
+  pub leaf_node : choice 2 τ above ks ≡ none
+      → trie_bytes τ above v p ks ≡ front 0 (value ∷ path ∷ []) (length (leaf_body ks)) ++ leaf_body ks
   unfolding trie_bytes known leaf_body
   leaf_node e =
-      levels.leaf_bytes 2 τ (above_of above) (known v p ks) ks e
+      levels.leaf_bytes 2 τ above (known v p ks) ks e
       ∙ rw (strip_known v p (shared ks) wide h l) (node_shape 0 value path (flat (map suffix_bytes (map (remains (shared ks)) ks))))
 
-  pub inner_node : (d : ℕ) → choice 2 τ (above_of above) ks ≡ some d
-      → trie_bytes τ above v p ks ≡ head_bytes (suc d) (length value) (length path) (length (inner_body τ d ks)) ++ ((value ++ path) ++ inner_body τ d ks)
+  pub inner_node : (d : ℕ) → choice 2 τ above ks ≡ some d
+      → trie_bytes τ above v p ks ≡ front (suc d) (value ∷ path ∷ []) (length (inner_body τ d ks)) ++ inner_body τ d ks
   unfolding trie_bytes known
   inner_node d e =
-      levels.inner_bytes 2 τ (above_of above) (known v p ks) ks d e
+      levels.inner_bytes 2 τ above (known v p ks) ks d e
       ∙ rw (strip_known v p (shared ks) wide h l) (node_shape (suc d) value path (flat (map (levels.bytes_of 2 τ (below d) (shared ks)) (parts d ks))))
 
 -- ---- a part's trie, where its keys begin with p
@@ -80,7 +80,7 @@ known_prefix (a ∷ b ∷ []) (x ∷ y ∷ s) e h = ap₂ (λ (u w : List ℕ). 
 known_prefix (a ∷ b ∷ c ∷ p) s e h = absurd (omega arith)
 
 pub part_bytes : (τ d : ℕ) (p : Strings) (q : List Key) → length p ≡ 2 → Prefixes p (shared q)
-    → trie_bytes τ (suc d) (length (at 0 p)) (length (at 1 p)) q ≡ levels.bytes_of 2 τ (below d) p q
+    → trie_bytes τ (below d) (length (at 0 p)) (length (at 1 p)) q ≡ levels.bytes_of 2 τ (below d) p q
 unfolding trie_bytes known
 part_bytes τ d p q e h = ap (λ (k : Strings). encode (trie 2 τ (below d) k q Forest.none)) (known_prefix p (shared q) e h)
 
@@ -119,7 +119,7 @@ unfolding node
 node_strip k k' ks none children more e = rw e
 node_strip k k' ks (some d) children more e = rw e
 
-pub root_bytes : (τ : ℕ) (x : Key) (xs : List Key) → length (shared (x ∷ xs)) ≡ 2 → trie_bytes τ 0 0 0 (x ∷ xs) ≡ encode (level_of 2 τ (x ∷ xs))
+pub root_bytes : (τ : ℕ) (x : Key) (xs : List Key) → length (shared (x ∷ xs)) ≡ 2 → trie_bytes τ root 0 0 (x ∷ xs) ≡ encode (level_of 2 τ (x ∷ xs))
 unfolding trie_bytes known level_of
 root_bytes τ x xs e =
     let ks : List Key = x ∷ xs in

@@ -3,116 +3,108 @@
 // and what they print come from tools/oracle/trie_build.py.
 #![tactic(auto)]
 
-ghost use Rattle.std.specs.Prelude.{◌≡◌, ◌*◌, ◌<◌, ◌≤◌, true, length};
-ghost use Rattle.rows.specs.Sizes.{row_size};
-ghost use Rattle.entries.specs.Slots.{slot_size};
-ghost use Rattle.trie_sets.specs.Sets.{short_paths};
+ghost use Rattle.std.specs.Prelude.{◌≡◌, ◌<◌, ◌≤◌, true, length};
+ghost use Rattle.buffer.specs.Lists.{all};
+ghost use Rattle.entries.specs.Slots.{slot_size, short_path};
+ghost use Rattle.trie_read.specs.Shape.{above_of};
+ghost use Rattle.trie_sets.specs.Sets.{slots_of};
+ghost use Rattle.trie_sets.specs.Positions.{OfTwo};
 
 use console::Console;
 use entries::SLOT_SIZE;
 use rows::sizes::ROW_SIZE;
 use std::io;
-use trie_sets::positions::{paths_are_short, split, wide};
+use trie_read::kind::Dimension;
+use trie_sets::positions::{Shared, paths_are_short, split};
 
-const SPACE: [u8; 1] = [32];
+// The most rows of a set.
+const MOST: usize = 32;
 
-const NEWLINE: [u8; 1] = [10];
+// The memory: room for the level of that many rows, their slots, and the scratch stretch.
+const SLOTS: usize = MOST * SLOT_SIZE;
 
-// The memory: room for the level of 32 rows, their slots, and the scratch stretch.
-const SLOTS: usize = 8192;
+const SCRATCH: usize = SLOTS + MOST * SLOT_SIZE;
 
-const SCRATCH: usize = 16384;
+const MEMORY: usize = SCRATCH + MOST * SLOT_SIZE;
 
-const MEMORY: usize = 24576;
-
-fn lay(s: &mut [u8], k: usize, row: &[u8])
-    requires { (length s.old ≡ 24576) × (k < 32) × (length row.now ≡ row_size) }
+fn lay(slot: &mut [u8], row: &[u8; ROW_SIZE])
+    requires { length slot.old ≡ slot_size }
 {
-    let at = SLOTS + k * SLOT_SIZE;
-    buffer::moves::clear(s, at, SLOT_SIZE);
-    buffer::moves::copy_from(s, at, row);
-}
-
-fn print(console: &mut Console, s: &[u8], n: usize) {
-    let mut i: usize = 0;
-    while i < n {
-        if i < s.len() {
-            console.print_hex(s[i]);
-        }
-        i += 1;
-    }
-    console.print(&NEWLINE);
+    slot[..ROW_SIZE].copy_from_slice(row);
+    slot[ROW_SIZE..].fill(0);
 }
 
 // A position is one more than the bytes shared.
 fn print_position(console: &mut Console, shared: usize) {
-    console.print(&SPACE);
+    console.print(b" ");
     console.print_decimal((shared as u64).wrapping_add(1));
 }
 
-fn print_split(console: &mut Console, slots: &[u8], n: usize, tau: usize, above: usize)
-    requires { (n * slot_size ≤ length slots.now) × (above ≤ 2) × (short_paths n slots.now ≡ true) }
+fn print_split(console: &mut Console, slots: &[u8], tau: usize, above: Option<Dimension>)
+    requires { (0 < length (slots_of slots.now)) × OfTwo (above_of above) × (all short_path (slots_of slots.now) ≡ true) }
 {
-    if n == 0 {
+    let shape = split(slots, tau, above, Shared { value: 0, path: 0 });
+    console.print_decimal(u64::from(u8::from(shape.kind)));
+    print_position(console, shape.shared.path);
+    print_position(console, shape.shared.value);
+    console.print(b"\n");
+}
+
+fn level(
+    console: &mut Console,
+    s: &mut [u8; MEMORY],
+    n: usize,
+    tau: usize,
+    above: Option<Dimension>,
+)
+    requires { (n ≤ MOST) × OfTwo (above_of above) }
+{
+    let end = SLOTS + n * SLOT_SIZE;
+    if !paths_are_short(&s[SLOTS..end]) {
+        console.print(b"long\n");
         return;
     }
-    let shape = split(slots, n, tau, above, 0, 0);
-    console.print_decimal(shape.kind as u64);
-    print_position(console, shape.path);
-    print_position(console, shape.value);
-    console.print(&NEWLINE);
+    if n > 0 {
+        print_split(console, &s[SLOTS..end], tau, above);
+    }
+    let size = trie_build::build::build_level(s, 0, SLOTS, SCRATCH, n, tau);
+    for b in s.iter().take(size) {
+        console.print_hex(*b);
+    }
+    console.print(b"\n");
 }
 
-fn level(console: &mut Console, s: &mut [u8], n: usize, tau: usize, above: usize)
-    requires { (length s.old ≡ 24576) × (n ≤ 32) × (above ≤ 2) }
+// The first set of the input; returns what is behind it, nothing where it is not whole.
+fn set<'a>(console: &mut Console, s: &mut [u8; MEMORY], input: &'a [u8]) -> &'a [u8]
+    requires { 0 < length input.now }
+    ensures { length result.now < length input.now }
 {
-    if paths_are_short(&s[SLOTS..SCRATCH], n) {
-        print_split(console, &s[SLOTS..SCRATCH], n, tau, above);
-        let size = trie_build::build::build_level(s, 0, SLOTS, SCRATCH, n, tau);
-        print(console, s, size);
-    } else {
-        console.print(b"long\n");
+    let Some(([tau, above, n], rest)) = input.split_first_chunk::<3>() else {
+        return &input[input.len()..];
+    };
+    let above = match above {
+        0 => None,
+        1 => Some(Dimension::Value),
+        2 => Some(Dimension::Path),
+        _ => return &input[input.len()..],
+    };
+    let n = usize::from(*n);
+    if n > MOST || rest.len() < n * ROW_SIZE {
+        return &input[input.len()..];
     }
+    let (rows, rest) = rest.split_at(n * ROW_SIZE);
+    for (k, row) in rows.as_chunks::<ROW_SIZE>().0.iter().enumerate() {
+        let at = SLOTS + k * SLOT_SIZE;
+        lay(&mut s[at..at + SLOT_SIZE], row);
+    }
+    level(console, s, n, usize::from(*tau), above);
+    rest
 }
 
-// The set at `from` of the input; returns where it ends, or the end of the input where it is not whole.
-fn set(console: &mut Console, s: &mut [u8], input: &[u8], from: usize) -> usize
-    requires { (length s.old ≡ 24576) × (from < length input.now) }
-    ensures { (from < result) × (result ≤ length input.now) }
-{
-    if input.len() - from < 3 {
-        return input.len();
-    }
-    let tau = wide(input[from]);
-    let above = wide(input[from + 1]);
-    let n = wide(input[from + 2]);
-    if above > 2 {
-        return input.len();
-    }
-    if n > 32 {
-        return input.len();
-    }
-    let rows = from + 3;
-    if input.len() - rows < n * ROW_SIZE {
-        return input.len();
-    }
-    let mut k: usize = 0;
-    while k < n {
-        let at = rows + k * ROW_SIZE;
-        let end = at + ROW_SIZE;
-        lay(s, k, &input[at..end]);
-        k += 1;
-    }
-    level(console, s, n, tau, above);
-    rows + n * ROW_SIZE
-}
-
-fn run(console: &mut Console, s: &mut [u8], input: &[u8])
-    requires { length s.old ≡ 24576 }
-{
-    let mut at: usize = 0;
-    while at < input.len() {
-        at = set(console, s, input, at);
+fn run(console: &mut Console, s: &mut [u8; MEMORY], input: &[u8]) {
+    let mut rest = input;
+    while !rest.is_empty() {
+        rest = set(console, s, rest);
     }
 }
 
@@ -121,6 +113,6 @@ fn main(rt: HostRuntime) -> io::Result<()> {
     let mut input = [0u8; 65536];
     let n = console.read_full(&mut input);
     let mut s = [0u8; MEMORY];
-    run(&mut console, &mut s, &input[0..n]);
+    run(&mut console, &mut s, &input[..n]);
     console.finish()
 }

@@ -1,8 +1,8 @@
 pub mod Sets
 pub mod Turning
+pub mod Slotted
 pub mod Sharing
 pub mod Splitting
-pub mod Slotted
 pub mod Scatter
 pub mod ScatterTurn
 pub mod Sequence

@@ -1,47 +1,39 @@
--- Slots one after the other: their bytes. Assumes nothing.
-use mathlib.Core.Path.{◌≡◌, sym, ◌∙◌}
-use Prim.Native.Nat.{ℕ, ◌+◌, ◌*◌, ◌≤◌, ◌<◌}
-use mathlib.Core.List.{List}
+-- Lists of slots: what holds of each, and of all. Assumes nothing.
+use mathlib.Core.Path.{◌≡◌, refl, ap}
+use mathlib.Core.Bool.{Bool, ◌&&◌}
+use Prim.Native.Nat.{ℕ, zero, suc, ◌<◌}
+use mathlib.Core.List.{List, [], ◌∷◌, map}
 use native.Mathlib.Omega.{arith}
-use lib.ListN.{get_or}
-use borrow.Author.Count.{below_more}
-use Rattle.rows.specs.Sizes.{length_at}
-use Rattle.entries.specs.Slots.{slot_size}
-use Rattle.trie_sets.specs.Positions.{slot_byte, Least}
+use lib.ListN.{length, get_or}
+use Rattle.std.specs.List.{list_all}
+use Rattle.buffer.specs.Lists.{all, All, nil, cons}
+use Rattle.buffer.proofs.Lists.{all_map, all_unmap}
+use Rattle.entries.specs.Slots.{slot_key}
+use Rattle.trie_theory.specs.Forest.{Key}
 
--- slot 0 begins at 0
-pub slot_zero : (t : List ℕ) (k i : ℕ) → k < 1 → slot_byte t k i ≡ get_or t i 0
-slot_zero t k i h =
-    let e : k * slot_size + i ≡ i = omega arith in
-    rw e
+-- slot k
+abbrev pub nth : List (List ℕ) → ℕ → List ℕ
+nth rs k = get_or rs k []
 
--- one position more
-pub alike_more : (t : List ℕ) (n start from j : ℕ) → ((k i : ℕ) → k < n → from ≤ i → i < j → slot_byte t k (start + i) ≡ get_or t (start + i) 0)
-    → ((k : ℕ) → k < n → slot_byte t k (start + j) ≡ get_or t (start + j) 0)
-    → (k i : ℕ) → k < n → from ≤ i → i < j + 1 → slot_byte t k (start + i) ≡ get_or t (start + i) 0
-alike_more t n start from j f g k i h l u =
-    below_more (λ i. from ≤ i → slot_byte t k (start + i) ≡ get_or t (start + i) 0) _ (λ i m q. f k i h q m) (λ q. g k h) i u l
+module _ {P : List ℕ → Type 0} where
+  pub all_slots : (rs : List (List ℕ)) → ((k : ℕ) → k < length rs → P (nth rs k)) → All P rs
+  all_slots [] f = nil
+  all_slots (r ∷ rs) f = cons (f 0 (omega arith)) (all_slots rs (λ k h. f (suc k) (omega arith)))
 
--- the first slot's path length is the least of one
-pub least_first : (t : List ℕ) (r : ℕ) → r ≡ get_or t length_at 0 → Least t 1 r
-least_first t r e =
-    record {
-      low = λ k h. rw (slot_zero t k length_at h) (omega arith);
-      met = (0, omega arith, e ∙ sym (slot_zero t 0 length_at (omega arith)));
-    }
+  pub slots_all : {rs : List (List ℕ)} → All P rs → (k : ℕ) → k < length rs → P (nth rs k)
+  slots_all nil k h = absurd (omega arith)
+  slots_all (cons p a) zero h = p
+  slots_all (cons p a) (suc k) h = slots_all a k (omega arith)
 
--- one slot more
-module _ {t : List ℕ} {n r : ℕ} (l : Least t n r) where
-  pub least_less : {m : ℕ} → m ≡ slot_byte t n length_at → m < r → Least t (n + 1) m
-  least_less {m} e h =
-      record {
-        low = below_more (λ k. m ≤ slot_byte t k length_at) _ (λ k q. omega (arith, l.low k q)) (omega arith);
-        met = (n, omega arith, e);
-      }
+-- the same of keys
+module _ {P : Key → Type 0} (rs : List (List ℕ)) where
+  pub all_keys : ((k : ℕ) → k < length rs → P (slot_key (nth rs k))) → All P (map slot_key rs)
+  all_keys f = all_map slot_key (λ r h. h) (all_slots {P = λ r. P (slot_key r)} rs f)
 
-  pub least_kept : r ≤ slot_byte t n length_at → Least t (n + 1) r
-  least_kept h =
-      record {
-        low = below_more (λ k. r ≤ slot_byte t k length_at) _ l.low h;
-        met = (l.met.0, omega (arith, l.met.1), l.met.2);
-      }
+  pub keys_all : All P (map slot_key rs) → (k : ℕ) → k < length rs → P (slot_key (nth rs k))
+  keys_all a = slots_all {P = λ r. P (slot_key r)} (all_unmap slot_key (λ r h. h) rs a)
+
+-- std's word for all, and buffer's
+pub list_all_is : {A : Type 0} (t : A → Bool) (xs : List A) → list_all t xs ≡ all t xs
+list_all_is t [] = refl
+list_all_is t (x ∷ xs) = ap (λ (b : Bool). t x && b) (list_all_is t xs)

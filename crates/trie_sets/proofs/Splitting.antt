@@ -1,118 +1,93 @@
 -- How a set of slots is split: the two dimensions, their positions, and the kind of the node. Assumes nothing.
-use mathlib.Core.Path.{◌≡◌, refl, ap, ◌∙◌}
+use mathlib.Core.Path.{◌≡◌, refl}
 use mathlib.Core.Bool.{Bool, true, false}
-use Prim.Native.Nat.{ℕ, ◌+◌, ◌*◌, ◌≤◌, ◌<◌}
-use mathlib.Core.List.{List}
+use mathlib.Core.Option.{none}
+use Prim.Native.Nat.{ℕ, ◌+◌, ◌≤◌, ◌<◌}
+use mathlib.Core.List.{List, map}
 use native.Mathlib.Omega.{arith}
-use lib.ListN.{length, get_or}
+use lib.ListN.{length, length-map}
 use lib.Dec.{ltb}
-use borrow.Author.Tests.{leb-true, le-leb, lt-ltb, le-ltb}
-use Rattle.buffer.specs.Splice.{region}
+use borrow.Author.Tests.{leb-true, lt-ltb, le-ltb}
+use Rattle.buffer.specs.Lists.{all}
 use Rattle.buffer.proofs.Splice.{length_region}
-use Rattle.buffer.proofs.Lists.{all_test, all_tested}
-use Rattle.rows.specs.Records.{records}
+use Rattle.buffer.proofs.Lists.{all_tested}
 use Rattle.rows.specs.Sizes.{value_size, length_at, path_at}
-use Rattle.rows.proofs.Records.{record_inside}
 use Rattle.matcher.specs.Bytes.{path_limit}
 use Rattle.entries.specs.Slots.{slot_size, slot_key, short_path}
 use Rattle.trie_theory.specs.Strings.{at}
-use Rattle.trie_theory.specs.Dimensions.{turn}
+use Rattle.trie_theory.specs.Dimensions.{Above, turn}
 use Rattle.trie_theory.specs.Position.{shared, differ}
 use Rattle.trie_theory.specs.Level.{choice}
-use Rattle.trie_read.specs.Shape.{above_of}
-use Rattle.trie_sets.specs.Sets.{keys_of, short_paths}
-use Rattle.trie_sets.specs.Positions.{slot_byte, Alike, Least, passes, kind_of}
+use Rattle.trie_sets.specs.Positions.{slot_byte, Alike, Least, passes, OfTwo}
+use Rattle.trie_sets.proofs.Sets.{nth, slots_all}
+use Rattle.trie_sets.proofs.Slotted.{region_get}
 use Rattle.trie_sets.proofs.Turning.{turn_same}
-use Rattle.trie_sets.proofs.Sharing.{Dimension, region_get, all_slots, slots_all, length_keys_of, bound_shared, sharing, differing}
+use Rattle.trie_sets.proofs.Sharing.{Dimension, bound_shared, sharing, differing}
 
-module _ (t : List ℕ) (n : ℕ) (room : n * slot_size ≤ length t) where
-  -- slot k, whole
-  pub slot_whole : (k : ℕ) → k < n → length (region t (k * slot_size) slot_size) ≡ slot_size
-  slot_whole k h = length_region t (k * slot_size) slot_size (omega (arith, record_inside k n slot_size h))
+-- no path is longer than a path may be
+pub path_short : (rs : List (List ℕ)) → all short_path rs ≡ true → (k : ℕ) → k < length rs → slot_byte rs k length_at ≤ path_limit
+unfolding short_path
+path_short rs short k h = leb-true (slot_byte rs k length_at) path_limit (slots_all {P = λ r. short_path r ≡ true} (all_tested short_path rs short) k h)
 
-  pub value_dimension : Dimension 0 0 t n (λ k. value_size)
+module _ {rs : List (List ℕ)} (whole : (k : ℕ) → k < length rs → length (nth rs k) ≡ slot_size) where
+  pub value_dimension : Dimension 0 0 rs (λ k. value_size)
   unfolding slot_key
   value_dimension =
       record {
         inside = λ k h. omega arith;
-        long = λ k h. length_region (region t (k * slot_size) slot_size) 0 value_size (omega (arith, slot_whole k h));
-        bytes = λ k i h l.
-            region_get (region t (k * slot_size) slot_size) 0 value_size i l ∙ region_get t (k * slot_size) slot_size (0 + i) (omega arith);
+        long = λ k h. length_region (nth rs k) 0 value_size (omega (arith, whole k h));
+        bytes = λ k i h l. region_get (nth rs k) 0 value_size i l;
       }
 
-  module _ (short : short_paths n t ≡ true) where
-    -- its path is not too long
-    pub path_short : (k : ℕ) → k < n → slot_byte t k length_at ≤ path_limit
-    unfolding short_paths short_path
-    path_short k h =
-        let r : List ℕ = region t (k * slot_size) slot_size in
-        let l = slots_all {P = λ r. short_path r ≡ true} n t (all_tested short_path (records slot_size n t) short) k h in
-        omega (arith, leb-true (get_or r length_at 0) path_limit l, region_get t (k * slot_size) slot_size length_at (omega arith))
-
-    pub path_dimension : Dimension 1 path_at t n (λ k. slot_byte t k length_at + 1)
-    unfolding slot_key
-    path_dimension =
-        let r : ℕ → List ℕ = λ k. region t (k * slot_size) slot_size in
-        let own : (k : ℕ) → get_or (r k) length_at 0 ≡ slot_byte t k length_at = λ k. region_get t (k * slot_size) slot_size length_at (omega arith) in
-        record {
-          inside = λ k h. omega arith;
-          long = λ k h.
-              rw (own k) (length_region (r k) path_at (slot_byte t k length_at + 1) (omega (arith, slot_whole k h, path_short k h)));
-          bytes = λ k i h l.
-              rw (own k) (region_get (r k) path_at (slot_byte t k length_at + 1) i l)
-              ∙ region_get t (k * slot_size) slot_size (path_at + i) (omega (arith, path_short k h));
-        }
-
--- paths that are each short are short
-pub short_paths_lem : (t : List ℕ) (n : ℕ) → ((k : ℕ) → k < n → slot_byte t k length_at ≤ path_limit) → short_paths n t ≡ true
-unfolding short_paths short_path
-short_paths_lem t n f =
-    all_test short_path
-    (all_slots {P = λ r. short_path r ≡ true} n t
-    (λ k h.
-    let e = region_get t (k * slot_size) slot_size length_at (omega arith) in
-    rw e (le-leb (slot_byte t k length_at) path_limit (f k h))))
+  pub path_dimension : all short_path rs ≡ true → Dimension 1 path_at rs (λ k. slot_byte rs k length_at + 1)
+  unfolding slot_key
+  path_dimension short =
+      record {
+        inside = λ k h. omega arith;
+        long = λ k h. length_region (nth rs k) path_at (slot_byte rs k length_at + 1) (omega (arith, whole k h, path_short _ short k h));
+        bytes = λ k i h l. region_get (nth rs k) path_at (slot_byte rs k length_at + 1) i l;
+      }
 
 -- the two positions and what they decide
-module _ (t : List ℕ) (n : ℕ) (some : 0 < n) (room : n * slot_size ≤ length t) (short : short_paths n t ≡ true) (small : (i : ℕ) → get_or t i 0 < 256) (least : ℕ) (m : Least t n least) where
-  module _ (from v : ℕ) (known : from ≤ length (at 0 (shared (keys_of n t)))) (a : Alike t n 0 from value_size v) where
-    pub value_shared : length (at 0 (shared (keys_of n t))) ≡ v
-    value_shared =
-        sharing 0 0 t n some (λ k. value_size) (value_dimension t n room) from value_size v (λ k h. omega arith) (0, some, refl) known a
+module _ {rs : List (List ℕ)} (some : 0 < length rs) (whole : (k : ℕ) → k < length rs → length (nth rs k) ≡ slot_size) (short : all short_path rs ≡ true)
+    (small : (k i : ℕ) → k < length rs → i < slot_size → slot_byte rs k i < 256) {least : ℕ} (m : Least rs least) where
+  pub least_short : least ≤ path_limit
+  least_short = omega (arith, m.met.2, path_short _ short m.met.0 m.met.1)
 
-    pub value_differs : ltb v value_size ≡ differ 0 (keys_of n t)
-    value_differs =
-        differing 0 0 t n some (λ k. value_size) (value_dimension t n room) from value_size v (λ k h. omega arith) (0, some, refl) known a small
+  module _ {from v : ℕ} (known : from ≤ length (at 0 (shared (map slot_key rs)))) (a : Alike rs 0 from value_size v) where
+    pub value_shared : length (at 0 (shared (map slot_key rs))) ≡ v
+    value_shared = sharing some (value_dimension whole) (λ k h. omega arith) (0, some, refl) known a
 
-  module _ (from p : ℕ) (known : from ≤ length (at 1 (shared (keys_of n t)))) (a : Alike t n path_at from (least + 1) p) where
-    pub path_shared : length (at 1 (shared (keys_of n t))) ≡ p
+    pub value_differs : ltb v value_size ≡ differ 0 (map slot_key rs)
+    value_differs = differing some (value_dimension whole) (λ k h. omega arith) (0, some, refl) known a small (omega arith)
+
+  module _ {from p : ℕ} (known : from ≤ length (at 1 (shared (map slot_key rs)))) (a : Alike rs path_at from (least + 1) p) where
+    pub path_shared : length (at 1 (shared (map slot_key rs))) ≡ p
     path_shared =
-        sharing 1 path_at t n some (λ k. slot_byte t k length_at + 1) (path_dimension t n room short) from (least + 1) p
-        (λ k h. omega (arith, m.low k h)) (m.met.0, m.met.1, omega (arith, m.met.2)) known a
+        sharing some (path_dimension whole short) (λ k h. omega (arith, m.low k h)) (m.met.0, m.met.1, omega (arith, m.met.2)) known a
 
-    pub path_differs : ltb p (least + 1) ≡ differ 1 (keys_of n t)
+    pub path_differs : ltb p (least + 1) ≡ differ 1 (map slot_key rs)
     path_differs =
-        differing 1 path_at t n some (λ k. slot_byte t k length_at + 1) (path_dimension t n room short) from (least + 1) p
-        (λ k h. omega (arith, m.low k h)) (m.met.0, m.met.1, omega (arith, m.met.2)) known a small
+        differing some (path_dimension whole short) (λ k h. omega (arith, m.low k h)) (m.met.0, m.met.1, omega (arith, m.met.2)) known a small (omega (arith, least_short))
 
   -- known bytes are not more than the strings have
-  pub value_known : length (at 0 (shared (keys_of n t))) ≤ value_size
-  value_known = bound_shared 0 0 t n some (λ k. value_size) (value_dimension t n room) 0 some
+  pub value_known : length (at 0 (shared (map slot_key rs))) ≤ value_size
+  value_known = bound_shared (value_dimension whole) 0 some
 
-  pub path_known : length (at 1 (shared (keys_of n t))) ≤ least + 1
-  path_known =
-      omega (arith, bound_shared 1 path_at t n some (λ k. slot_byte t k length_at + 1) (path_dimension t n room short) m.met.0 m.met.1, m.met.2)
+  pub path_known : length (at 1 (shared (map slot_key rs))) ≤ least + 1
+  path_known = omega (arith, bound_shared (path_dimension whole short) m.met.0 m.met.1, m.met.2)
 
--- the kind of the node
-module _ (n τ above : ℕ) (t : List ℕ) (low : above ≤ 2) (v p : Bool) (e : v ≡ differ 0 (keys_of n t)) (f : p ≡ differ 1 (keys_of n t)) where
-  pub kind_many : τ < n → kind_of (turn (passes v p) 2 (above_of above)) ≡ kind_of (choice 2 τ (above_of above) (keys_of n t))
+-- the dimension in which the node branches
+module _ (τ : ℕ) (above : Above) (rs : List (List ℕ)) where
+  pub kind_many : OfTwo above → (v p : Bool) → v ≡ differ 0 (map slot_key rs) → p ≡ differ 1 (map slot_key rs) → τ < length rs
+      → turn (passes v p) 2 above ≡ choice 2 τ above (map slot_key rs)
   unfolding choice passes
-  kind_many h =
-      let l : ltb τ (length (keys_of n t)) ≡ true = lt-ltb τ (length (keys_of n t)) (omega (arith, length_keys_of n t)) in
-      rw l (ap kind_of (turn_same (passes v p) (λ d. differ d (keys_of n t)) above low e f))
+  kind_many two v p e f h =
+      let l : ltb τ (length (map slot_key rs)) ≡ true = lt-ltb τ (length (map slot_key rs)) (omega (arith, length-map rs slot_key)) in
+      rw l (turn_same (passes v p) (λ d. differ d (map slot_key rs)) above two e f)
 
-pub kind_few : (n τ above : ℕ) (t : List ℕ) → n ≤ τ → 0 ≡ kind_of (choice 2 τ (above_of above) (keys_of n t))
-unfolding choice
-kind_few n τ above t h =
-    let l : ltb τ (length (keys_of n t)) ≡ false = le-ltb τ (length (keys_of n t)) (omega (arith, length_keys_of n t)) in
-    rw l
+  pub kind_few : length rs ≤ τ → none ≡ choice 2 τ above (map slot_key rs)
+  unfolding choice
+  kind_few h =
+      let l : ltb τ (length (map slot_key rs)) ≡ false = le-ltb τ (length (map slot_key rs)) (omega (arith, length-map rs slot_key)) in
+      rw l

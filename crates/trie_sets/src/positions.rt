@@ -1,119 +1,103 @@
 // Discriminative positions (Definition 5), and the dimension in which a set is partitioned (Definition 7).
-ghost use Rattle.std.specs.Prelude.{◌≡◌, true, ◌+◌, ◌*◌, ◌≤◌, ◌<◌, length};
-ghost use Rattle.entries.specs.Slots.{slot_size};
+ghost use Rattle.std.specs.Prelude.{◌≡◌, true, ◌+◌, ◌≤◌, ◌<◌, length, map};
+ghost use Rattle.buffer.specs.Lists.{all};
+ghost use Rattle.matcher.specs.Bytes.{path_limit};
+ghost use Rattle.rows.specs.Sizes.{value_size};
+ghost use Rattle.entries.specs.Slots.{slot_size, slot_key, short_path};
 ghost use Rattle.trie_theory.specs.Dimensions.{turn};
 ghost use Rattle.trie_theory.specs.Strings.{at};
 ghost use Rattle.trie_theory.specs.Position.{shared};
 ghost use Rattle.trie_read.specs.Shape.{above_of};
-ghost use Rattle.trie_sets.specs.Sets.{keys_of, short_paths};
-ghost use Rattle.trie_sets.specs.Positions.{Alike, Least, passes, kind_of, Split};
+ghost use Rattle.trie_sets.specs.Sets.{slots_of};
+ghost use Rattle.trie_sets.specs.Positions.{Alike, Least, passes, branch_of, OfTwo, Split};
 
-use entries::SLOT_SIZE;
+use entries::{SLOT_SIZE, Slot};
 use matcher::bytes::PATH_LIMIT;
 use rows::sizes::{LENGTH_AT, PATH_AT, VALUE_SIZE};
-pub use trie_read::head::wide;
+use trie_read::kind::{Dimension, Kind};
 
 // Is no path in the slots longer than a path may be?
-pub fn paths_are_short(slots: &[u8], n: usize) -> bool
-    requires { n * slot_size ≤ length slots.now }
-    ensures { result ≡ short_paths n slots.now }
+pub fn paths_are_short(slots: &[u8]) -> bool
+    ensures { result ≡ all short_path (slots_of slots.now) }
 {
-    let mut k: usize = 0;
-    while k < n {
-        if wide(slots[k * SLOT_SIZE + LENGTH_AT]) > PATH_LIMIT {
-            return false;
-        }
-        k += 1;
-    }
-    true
+    let (set, _) = slots.as_chunks::<SLOT_SIZE>();
+    set.iter()
+        .all(|slot| usize::from(slot[LENGTH_AT]) <= PATH_LIMIT)
 }
 
 // The least path length of the slots.
-fn least_path(slots: &[u8], n: usize) -> usize
-    requires { (0 < n) × (n * slot_size ≤ length slots.now) }
-    ensures { Least slots.now n result }
+fn least_path(slots: &[Slot]) -> u8
+    requires { 0 < length slots.now }
+    ensures { Least slots.now result }
 {
-    let mut least = wide(slots[LENGTH_AT]);
-    let mut k: usize = 1;
-    while k < n {
-        let own = wide(slots[k * SLOT_SIZE + LENGTH_AT]);
-        if own < least {
-            least = own;
-        }
-        k += 1;
-    }
-    least
+    slots.iter().map(|slot| slot[LENGTH_AT]).min().unwrap()
 }
 
 // How many bytes the strings that begin at `start` in each slot have in common, `from` of which are known, up to `limit`: one less than
 // the discriminative position.
-fn common_bytes(slots: &[u8], n: usize, start: usize, from: usize, limit: usize) -> usize
-    requires { (n * slot_size ≤ length slots.now) × (0 < n) × (from ≤ limit) × (start + limit ≤ slot_size) }
-    ensures { Alike slots.now n start from limit result }
+fn common_bytes(slots: &[Slot], start: usize, from: usize, limit: usize) -> usize
+    requires { (0 < length slots.now) × (from ≤ limit) × (start + limit ≤ slot_size) }
+    ensures { Alike slots.now start from limit result }
 {
-    let mut j = from;
-    'positions: while j < limit {
-        let at = start + j;
-        let byte = slots[at];
-        let mut k: usize = 1;
-        while k < n {
-            if slots[k * SLOT_SIZE + at] != byte {
+    let mut shared = limit;
+    'positions: for j in from..limit {
+        let byte = slots[0][start + j];
+        for slot in slots {
+            if slot[start + j] != byte {
+                shared = j;
                 break 'positions;
             }
-            k += 1;
         }
-        j += 1;
     }
-    j
+    shared
 }
 
-// The first dimension from the wanted one on in which a set differs: 1 for V, 2 for path, 0 for none. `above` is the node above, 0 at the root.
+// What a node is whose keys differ in the value or in the path: it branches in the first dimension, from the wanted one on, in which they do.
 #[tactic(auto, using(crate::proofs::Turning::turn_path, crate::proofs::Turning::turn_value))]
-fn turn_kind(above: usize, value: bool, path: bool) -> usize
-    requires { above ≤ 2 }
-    ensures { result ≡ kind_of (turn (passes value path) 2 (above_of above)) }
+fn kind_of_set(above: Option<Dimension>, value: bool, path: bool) -> Kind
+    requires { OfTwo (above_of above) }
+    ensures { branch_of result ≡ turn (passes value path) 2 (above_of above) }
 {
-    if above == 1 {
-        if path {
-            return 2;
-        }
-        if value {
-            return 1;
-        }
-        return 0;
+    match above {
+        Some(Dimension::Value) if path => Kind::Inner(Dimension::Path),
+        _ if value => Kind::Inner(Dimension::Value),
+        _ if path => Kind::Inner(Dimension::Path),
+        _ => Kind::Leaf,
     }
-    if value {
-        return 1;
-    }
-    if path {
-        return 2;
-    }
-    0
 }
 
-// How a set is split: the kind of its node, and how many bytes its keys share in each dimension.
+// How many bytes the keys of a set have in common in each dimension.
 #[derive(Clone, Copy)]
-pub struct Shape {
-    pub kind: usize,
+pub struct Shared {
     pub value: usize,
     pub path: usize,
+    ghost value_most: { value ≤ value_size },
+    ghost path_most: { path ≤ path_limit + 1 },
 }
 
-// `value` and `path` bytes are known to be shared, those that the node above knows.
-pub fn split(slots: &[u8], n: usize, tau: usize, above: usize, value: usize, path: usize) -> Shape
-    requires { (0 < n) × (n * slot_size ≤ length slots.now) × (above ≤ 2) × (short_paths n slots.now ≡ true) × (value ≤ length (at 0 (shared (keys_of n slots.now)))) × (path ≤ length (at 1 (shared (keys_of n slots.now)))) }
-    ensures { Split tau above (keys_of n slots.now) result.kind result.value result.path }
+// How a set is split: what its node is, and the bytes that its keys share.
+#[derive(Clone, Copy)]
+pub struct Shape {
+    pub kind: Kind,
+    pub shared: Shared,
+}
+
+// The bytes in `known`, those that the node above knows, are known to be shared.
+pub fn split(slots: &[u8], tau: usize, above: Option<Dimension>, known: Shared) -> Shape
+    requires { (0 < length (slots_of slots.now)) × OfTwo (above_of above) × (all short_path (slots_of slots.now) ≡ true) × (known.value ≤ length (at 0 (shared (map slot_key (slots_of slots.now))))) × (known.path ≤ length (at 1 (shared (map slot_key (slots_of slots.now))))) }
+    ensures { Split tau (above_of above) (map slot_key (slots_of slots.now)) result.kind result.shared.value result.shared.path }
 {
-    let ends = least_path(slots, n) + 1;
-    let value_shared = common_bytes(slots, n, 0, value, VALUE_SIZE);
-    let path_shared = common_bytes(slots, n, PATH_AT, path, ends);
-    let mut kind: usize = 0;
-    if n > tau {
-        kind = turn_kind(above, value_shared < VALUE_SIZE, path_shared < ends);
-    }
+    let (set, _) = slots.as_chunks();
+    let ends = usize::from(least_path(set)) + 1;
+    let value = common_bytes(set, 0, known.value, VALUE_SIZE);
+    let path = common_bytes(set, PATH_AT, known.path, ends);
+    let kind = if set.len() > tau {
+        kind_of_set(above, value < VALUE_SIZE, path < ends)
+    } else {
+        Kind::Leaf
+    };
     Shape {
         kind,
-        value: value_shared,
-        path: path_shared,
+        shared: Shared { value, path },
     }
 }

@@ -1,17 +1,24 @@
--- The slots passed, the first among them, have the first one's byte.
-use borrow.Author.Count.{below_more}
-use native.Mathlib.Omega.{arith}
-use Rattle.trie_sets.proofs.Sets.{slot_zero}
+-- The first slot with another byte, or none.
+use Prim.Native.Nat.{ℕ}
+use mathlib.Core.List.{List}
+use mathlib.Core.Path.{◌≡◌, ◌∙◌}
+use lib.ListN.{get_or, length}
+use Rattle.std.proofs.Common.{rules, tests}
+use Rattle.std.proofs.lemmas.Iterator.{YieldsList-from_slice, IsFirst-from_position}
+use Rattle.trie_sets.specs.Positions.{slot_byte}
+use Rattle.trie_sets.proofs.Slotted.{chunks_slots}
+use Rattle.trie_build.proofs.Runs.{run_found}
 use Rattle.trie_build.proofs.build.run.Goals as goal
 
-pub loop-more-init : goal.loop-more-init
-loop-more-init c = (omega arith, λ i h. slot_zero c.args.slots.now i c.args.column (omega arith))
-
-pub returns-then-slots-more : goal.returns-then-slots-more
-returns-then-slots-more c = let l = c.loop-more.invariant in record { some = omega arith; most = omega arith; alike = l.1; ends = λ h. c.if-slots-more.true }
-
-pub loop-more-preserved : goal.loop-more-preserved
-loop-more-preserved c = (omega arith, below_more _ _ c.loop-more.invariant.1 c.if-slots-more.false)
+pub bounds-set-0 : goal.bounds-set-0
+bounds-set-0 c = rw (c.as_chunks.ensures.front ∙ chunks_slots c.args.slots.now) c.requires.0
 
 pub returns : goal.returns
-returns c = let l = c.loop-more.invariant in record { some = omega arith; most = omega arith; alike = l.1; ends = λ h e. omega arith }
+returns c =
+    let set = c.as_chunks.result.0.now in
+    let column = c.args.column in
+    let e = c.as_chunks.ensures.front ∙ chunks_slots c.args.slots.now in
+    rw (← e, c.unwrap_or.ensures)
+    (run_found set column c.position.result (rw e c.requires.0)
+    (IsFirst-from_position _ _ c.position.result (λ (x : List ℕ). get_or x column 0 ≡ slot_byte set 0 column → ⊥) (λ (x : List ℕ). get_or x column 0 ≡ slot_byte set 0 column)
+    c.position.ensures.ran (YieldsList-from_slice set cc) (λ x q k. search (rules, tests)) (λ x q k. search (rules, tests))))

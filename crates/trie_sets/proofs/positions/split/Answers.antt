@@ -1,88 +1,87 @@
 -- The two positions decide the kind.
 use native.Mathlib.Omega.{arith}
-use Prim.Native.Nat.{ℕ, ◌+◌, ◌≤◌, ◌<◌}
+use Prim.Native.Nat.{ℕ, ◌+◌, ◌<◌}
 use mathlib.Core.Path.{◌≡◌, sym, ◌∙◌}
-use lib.ListN.{length, get_or}
-use mathlib.Core.List.{List}
+use lib.ListN.{length}
 use lib.Dec.{ltb}
-use Rattle.trie_theory.specs.Forest.{Key}
+use mathlib.Core.List.{map}
+use Rattle.entries.specs.Slots.{slot_size, slot_key}
+use Rattle.trie_read.specs.Shape.{above_of}
+use Rattle.trie_sets.specs.Sets.{slots_of}
+use Rattle.trie_sets.specs.Positions.{slot_byte, Least}
+use Rattle.rows.specs.Sizes.{value_size}
 use Rattle.trie_theory.specs.Strings.{at}
 use Rattle.trie_theory.specs.Position.{shared, differ}
-use Rattle.trie_sets.specs.Sets.{keys_of}
-use Rattle.rows.specs.Sizes.{value_size}
-use Rattle.trie_sets.proofs.Splitting.{path_short, value_shared, value_differs, path_shared, path_differs, value_known, path_known, kind_many, kind_few}
-use Rattle.trie_sets.proofs.positions.split.Goals.{After-common_bytes-path_shared, After-least_path-ends}
+use Rattle.trie_sets.proofs.Slotted.{chunks_slots, slots_small, slots_whole}
+use Rattle.trie_sets.proofs.Splitting as law
+use Rattle.trie_sets.proofs.positions.split.Goals.{After-least_path, After-common_bytes-path, then-set-tau, else-set-tau}
 use Rattle.trie_sets.proofs.positions.split.Goals as goal
 
--- the least path is short
-least_short : (c : After-least_path-ends) → c.least_path-ends.result ≤ 200
-least_short c =
-    let a = c.args in
-    let p = c.requires in
-    let m = c.least_path-ends.ensures in
-    omega (arith, m.met.2, path_short a.slots.now a.n p.1 p.3 m.met.0 m.met.1)
+-- the chunks are the slots
+set : (c : After-least_path) → c.as_chunks.result.0.now ≡ slots_of c.args.slots.now
+set c = c.as_chunks.ensures.front ∙ chunks_slots c.args.slots.now
 
-small : (c : After-least_path-ends) (i : ℕ) → get_or c.args.slots.now i 0 < 256
-small c i = omega (arith, c.type_inv.slots i)
+least : (c : After-least_path) → Least (slots_of c.args.slots.now) c.least_path.result
+least c = rw (set c) at c.least_path.ensures
 
-abbrev set : (c : After-common_bytes-path_shared) → List Key
-set c = let a = c.args in keys_of a.n a.slots.now
+small : (c : After-least_path) (k i : ℕ) → k < length (slots_of c.args.slots.now) → i < slot_size → slot_byte (slots_of c.args.slots.now) k i < 256
+small c = slots_small c.args.slots.now (λ i. omega (arith, c.type_inv.slots i))
 
-value_is : (c : After-common_bytes-path_shared) → length (at 0 (shared (set c))) ≡ c.common_bytes-value_shared.result
+value_is : (c : After-common_bytes-path) → let v = c.common_bytes-value.result in
+    let ks = map slot_key (slots_of c.args.slots.now) in
+    (length (at 0 (shared ks)) ≡ v) × (ltb v value_size ≡ differ 0 ks)
 value_is c =
-    let a = c.args in
-    let p = c.requires in
-    value_shared a.slots.now a.n p.0 p.1 p.3 (λ i. omega (arith, c.type_inv.slots i)) _ c.least_path-ends.ensures a.value _ p.4 c.common_bytes-value_shared.ensures
+    let b = (goal.at.After-common_bytes-path c).After-least_path in
+    let r = c.requires in
+    let w = slots_whole c.args.slots.now in
+    let a = rw (set b) at c.common_bytes-value.ensures in
+    (law.value_shared r.0 w r.2 (small b) (least b) r.3 a, law.value_differs r.0 w r.2 (small b) (least b) r.3 a)
 
-value_test : (c : After-common_bytes-path_shared) → ltb c.common_bytes-value_shared.result value_size ≡ differ 0 (set c)
-value_test c =
-    let a = c.args in
-    let p = c.requires in
-    value_differs a.slots.now a.n p.0 p.1 p.3 (λ i. omega (arith, c.type_inv.slots i)) _ c.least_path-ends.ensures a.value _ p.4 c.common_bytes-value_shared.ensures
-
-path_is : (c : After-common_bytes-path_shared) → length (at 1 (shared (set c))) ≡ c.common_bytes-path_shared.result
+path_is : (c : After-common_bytes-path) → let p = c.common_bytes-path.result in
+    let ks = map slot_key (slots_of c.args.slots.now) in
+    (length (at 1 (shared ks)) ≡ p) × (ltb p (c.from-ends.result + 1) ≡ differ 1 ks)
 path_is c =
-    let a = c.args in
-    let p = c.requires in
-    path_shared a.slots.now a.n p.0 p.1 p.3 (λ i. omega (arith, c.type_inv.slots i)) _ c.least_path-ends.ensures a.path _ p.5 c.common_bytes-path_shared.ensures
+    let b = (goal.at.After-common_bytes-path c).After-least_path in
+    let r = c.requires in
+    let w = slots_whole c.args.slots.now in
+    let a = rw (set b, c.from-ends.ensures) at c.common_bytes-path.ensures in
+    (law.path_shared r.0 w r.2 (small b) (least b) r.4 a, rw c.from-ends.ensures (law.path_differs r.0 w r.2 (small b) (least b) r.4 a))
 
-path_test : (c : After-common_bytes-path_shared) → ltb c.common_bytes-path_shared.result (c.least_path-ends.result + 1) ≡ differ 1 (set c)
-path_test c =
-    let a = c.args in
-    let p = c.requires in
-    path_differs a.slots.now a.n p.0 p.1 p.3 (λ i. omega (arith, c.type_inv.slots i)) _ c.least_path-ends.ensures a.path _ p.5 c.common_bytes-path_shared.ensures
+pub least_path-requires : goal.least_path-requires
+least_path-requires c = rw (c.as_chunks.ensures.front ∙ chunks_slots c.args.slots.now) c.requires.0
 
-pub overflow_add-ends : goal.overflow_add-ends
-overflow_add-ends c = omega (arith, least_short c)
+pub common_bytes-value-requires : goal.common_bytes-value-requires
+common_bytes-value-requires c =
+    let b = (goal.at.common_bytes-value-requires c).After-least_path in
+    let r = c.requires in
+    (rw (set b) r.0, omega (arith, law.value_known r.0 (slots_whole c.args.slots.now) r.2 (small b) (least b)), omega arith)
 
-pub common_bytes-value_shared-requires : goal.common_bytes-value_shared-requires
-common_bytes-value_shared-requires c =
-    let a = c.args in
-    let p = c.requires in
-    (p.1, p.0, omega (arith, value_known a.slots.now a.n p.0 p.1 p.3 (small c) _ c.least_path-ends.ensures), omega arith)
-
-pub common_bytes-path_shared-requires : goal.common_bytes-path_shared-requires
-common_bytes-path_shared-requires c =
-    let a = c.args in
-    let p = c.requires in (
-      p.1,
-      p.0,
-      omega (arith, path_known a.slots.now a.n p.0 p.1 p.3 (small (goal.at.common_bytes-path_shared-requires c).After-least_path-ends) _ c.least_path-ends.ensures),
-      omega (arith, least_short (goal.at.common_bytes-path_shared-requires c).After-least_path-ends),
+pub common_bytes-path-requires : goal.common_bytes-path-requires
+common_bytes-path-requires c =
+    let b = (goal.at.common_bytes-path-requires c).After-least_path in
+    let r = c.requires in (
+      rw (set b) r.0,
+      omega (arith, law.path_known r.0 (slots_whole c.args.slots.now) r.2 (small b) (least b)),
+      omega (arith, law.least_short r.0 (slots_whole c.args.slots.now) r.2 (small b) (least b)),
     )
 
-pub returns-then-n-tau : goal.returns-then-n-tau
-returns-then-n-tau c =
-    let a = c.args in
-    record {
-      kind_is =
-          c.turn_kind-kind.ensures
-          ∙ kind_many a.n a.tau a.above a.slots.now (omega arith) _ _ (value_test (goal.at.returns-then-n-tau c).After-common_bytes-path_shared) (path_test (goal.at.returns-then-n-tau c).After-common_bytes-path_shared) c.if-n-tau.true;
-      value_is = sym (value_is (goal.at.returns-then-n-tau c).After-common_bytes-path_shared);
-      path_is = sym (path_is (goal.at.returns-then-n-tau c).After-common_bytes-path_shared);
-    }
+pub invariant_of-result-clause-path_most : goal.invariant_of-result-clause-path_most
+invariant_of-result-clause-path_most c =
+    let b = (goal.at.invariant_of-result-clause-path_most c).After-least_path in
+    omega (arith, c.common_bytes-path.ensures.high, c.from-ends.ensures, law.least_short c.requires.0 (slots_whole c.args.slots.now) c.requires.2 (small b) (least b))
 
-pub returns-else-n-tau : goal.returns-else-n-tau
-returns-else-n-tau c =
+pub returns : goal.returns
+returns c =
     let a = c.args in
-    record { kind_is = kind_few a.n a.tau a.above a.slots.now (omega arith); value_is = sym (value_is (goal.at.returns-else-n-tau c).After-common_bytes-path_shared); path_is = sym (path_is (goal.at.returns-else-n-tau c).After-common_bytes-path_shared) }
+    let rs = slots_of a.slots.now in
+    let m = (goal.at.returns c).After-common_bytes-path in
+    let e = set (goal.at.returns c).After-least_path in
+    record {
+      kind_is = elim c.if-set-tau.branch [
+        | then-set-tau w ↦
+            rw w.kind-is (w.kind_of_set-kind.ensures ∙ law.kind_many a.tau (above_of a.above) rs c.requires.1 _ _ (value_is m).1 (path_is m).1 (rw e at w.if-set-tau.true))
+        | else-set-tau w ↦ rw w.kind-is (law.kind_few a.tau (above_of a.above) rs (rw e at w.if-set-tau.false))
+      ];
+      value_is = sym (value_is m).0;
+      path_is = sym (path_is m).0;
+    }

@@ -1,9 +1,0 @@
--- Byte by byte.
-use Prim.Native.Nat.{◌-◌, ◌≤◌}
-use Rattle.trie_build_vectors.proofs.print.Given as goal
-
-abbrev pub invariant-loop-i : goal.invariant-loop-i
-invariant-loop-i l = l.i ≤ l.n
-
-abbrev pub decreases-loop-i : goal.decreases-loop-i
-decreases-loop-i l = l.n - l.i
