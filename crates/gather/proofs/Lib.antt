@@ -1,5 +1,3 @@
 pub mod Filling
 pub mod Putting
-pub mod Splitting
-pub mod Stepping
-pub mod Gathering
+pub mod Noting

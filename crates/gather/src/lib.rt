@@ -2,4 +2,7 @@
 #![tactic(auto)]
 
 pub mod key;
-pub mod walk;
+pub mod keys;
+pub mod known;
+pub mod output;
+pub mod way;
