@@ -1,5 +1,6 @@
 -- What a walk over tries visits: each key that has a slot, with the nodes above it. Assumes nothing: these are definitions.
-use Rattle.std.specs.Prelude.{ℕ, suc, ◌+◌, ◌*◌, ◌≤◌, ◌≡◌, Bool, true, false, ◌&&◌, List, [], ◌∷◌, ◌++◌, map, length, take, eqb, leb, Option, MatchOption}
+use Rattle.std.specs.Prelude.{ℕ, suc, ◌+◌, ◌*◌, ◌≤◌, ◌<◌, ◌≡◌, Bool, true, false, ◌&&◌, List, [], ◌∷◌, ◌++◌, map, length, take, eqb, leb, Option, MatchOption}
+use Rattle.buffer.specs.Sizes.{word_limit}
 use Rattle.buffer.specs.Lists.{pick}
 use Rattle.rows.specs.Sizes.{node_limit}
 use Rattle.trie_theory.specs.Forest.{Strings, Key, Forest, none, leaf, inner, join, under}
@@ -7,8 +8,9 @@ use Rattle.trie_theory.specs.Strings.{at}
 use Rattle.trie_theory.specs.Size.{height}
 use Rattle.trie_theory.specs.Encode.{Regular, encode}
 use Rattle.gather.specs.KeySlots.{has_slot, has_room, key_slot}
-use Rattle.gather.specs.Walks.{known_strings, Deeper, SuffixKeys}
+use Rattle.gather.specs.Walks.{PutBy, known_strings, Deeper, SuffixKeys}
 use Rattle.gather.specs.declared.known.Below.{Below}
+use Rattle.gather.specs.declared.output.Output.{Output}
 
 -- the bytes of a node on the way, and the most for all nodes of a way
 abbrev pub node_size : ℕ
@@ -69,3 +71,14 @@ pub record TrieVisits (n : ℕ) (way : List ℕ) (k : Strings) (t : List ℕ) (v
   pub high : height tries + n ≤ node_limit
   pub bytes : t ≡ encode tries
   pub is : vs ≡ visits n way k tries
+
+-- what a walk over the bytes t asks for: room for rows of a width, and a counter that does not overflow
+pub record Ready (width : ℕ) (t : List ℕ) (o : Output) : Type 0 where
+  pub fits : o.room * width ≤ length o.bytes.now
+  pub few : o.rows + length t < word_limit
+
+-- what it does: the rows of visits are put behind the others; the key buffer has the same known bytes. Where `Has` tells the visits, they are these
+pub record Walked (row : ℕ → List ℕ → List ℕ → List ℕ) (Has : List Visit → Type 0) (x : Below) (t : List ℕ) (o o' : Output) (k k' : List ℕ) : Type 0 where
+  pub few : o'.rows ≤ o.rows + length t
+  pub room : o'.room ≡ o.room
+  pub put : PutBy made (row_of row) Has x.known.value x.known.path 0 o.room o.rows o.bytes.now k o'.bytes.now k' o'.rows

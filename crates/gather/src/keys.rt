@@ -5,8 +5,8 @@ ghost use Rattle.buffer.specs.Sizes.{word_limit};
 ghost use Rattle.buffer.specs.Splice.{splice};
 ghost use Rattle.rows.specs.Sizes.{node_limit};
 ghost use Rattle.entries.specs.Slots.{slot_size};
-ghost use Rattle.gather.specs.Walks.{PutBy, known_strings};
-ghost use Rattle.gather.specs.Visits.{node_size, way_size, made, row_of, SuffixVisits, TrieVisits};
+ghost use Rattle.gather.specs.Walks.{known_strings};
+ghost use Rattle.gather.specs.Visits.{node_size, SuffixVisits, TrieVisits, Ready, Walked};
 
 use crate::key::compose;
 use crate::known::Below;
@@ -14,6 +14,9 @@ use crate::output::Output;
 use crate::way::{WAY_SIZE, descend};
 use entries::SLOT_SIZE;
 use rows::sizes::NODE_LIMIT;
+use trie_read::head::read_head;
+use trie_read::kind::Kind;
+use trie_read::suffixes::read_suffix;
 
 // What is written for a key: rows of one width.
 pub trait Format {
@@ -29,4 +32,51 @@ pub trait Format {
         ensures rows { output.new.rows ≡ output.old.rows + 1 };
 
     ghost even: { (n : ℕ) (way key : List ℕ) → length key ≡ slot_size → length way ≡ node_size * n → n ≤ node_limit → length (row n way key) ≡ width };
+}
+
+// Puts the rows of the keys of suffixes, which stand in the leaf that is the last of the nodes above.
+fn suffixes<F: Format>(
+    body: &[u8],
+    below: Below,
+    key: &mut [u8; SLOT_SIZE],
+    way: &[u8; WAY_SIZE],
+    output: &mut Output<'_>,
+)
+    requires { Ready F.width body.now output.old }
+    ensures { Walked F.row (SuffixVisits below.nodes (take (node_size * below.nodes) way.now) (known_strings below.known key.old) body.now) below body.now output.old output.new key.old key.new }
+{
+    let mut b = body;
+    while let Ok(Some(suffix)) = read_suffix(b) {
+        if compose(key, below.known, &suffix) {
+            F::put(output, key, way, below.nodes);
+        }
+        b = suffix.rest;
+    }
+}
+
+// The same of all keys of tries side by side.
+pub fn walk<F: Format>(
+    tries: &[u8],
+    below: Below,
+    key: &mut [u8; SLOT_SIZE],
+    way: &mut [u8; WAY_SIZE],
+    output: &mut Output<'_>,
+)
+    requires { Ready F.width tries.now output.old }
+    ensures walked { Walked F.row (TrieVisits below.nodes (take (node_size * below.nodes) way.old) (known_strings below.known key.old) tries.now) below tries.now output.old output.new key.old key.new }
+    ensures way_kept { take (node_size * below.nodes) way.new ≡ take (node_size * below.nodes) way.old }
+{
+    if below.nodes == NODE_LIMIT {
+        return;
+    }
+    let mut t = tries;
+    while let Ok(Some(node)) = read_head(t) {
+        if let Some(inside) = descend(key, way, below, &node) {
+            match node.kind {
+                Kind::Leaf => suffixes::<F>(node.body, inside, key, way, output),
+                Kind::Inner(_) => walk::<F>(node.body, inside, key, way, output),
+            }
+        }
+        t = node.rest;
+    }
 }

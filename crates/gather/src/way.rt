@@ -2,6 +2,7 @@
 ghost use Rattle.std.specs.Prelude.{◌≡◌, ◌+◌, ◌*◌, ◌<◌, ◌≤◌, [], ◌∷◌};
 ghost use Rattle.buffer.specs.Splice.{splice};
 ghost use Rattle.rows.specs.Sizes.{node_limit};
+ghost use Rattle.trie_read.specs.Kinds.{byte_of_kind};
 ghost use Rattle.gather.specs.Visits.{node_size, Descended};
 
 use crate::key::enter;
@@ -9,6 +10,7 @@ use crate::known::{Below, Known};
 use buffer::moves::copy_from;
 use entries::SLOT_SIZE;
 use rows::sizes::NODE_LIMIT;
+use trie_read::head::Node;
 
 pub const NODE_SIZE: usize = 3;
 
@@ -25,11 +27,19 @@ fn note(way: &mut [u8; WAY_SIZE], n: usize, kind: u8, known: Known)
 }
 
 // Goes down to a node and notes it. None where its strings have no room.
-pub(crate) fn descend(key: &mut [u8; SLOT_SIZE], way: &mut [u8; WAY_SIZE], below: Below, kind: u8, value: &[u8], path: &[u8]) -> Option<Below>
+pub(crate) fn descend(
+    key: &mut [u8; SLOT_SIZE],
+    way: &mut [u8; WAY_SIZE],
+    below: Below,
+    node: &Node<'_>,
+) -> Option<Below>
     requires { below.nodes < node_limit }
-    ensures { Descended below value.now path.now kind key.old way.old key.new way.new result }
+    ensures { Descended below node.now.value.now node.now.path.now (byte_of_kind node.now.kind) key.old way.old key.new way.new result }
 {
-    let known = enter(key, below.known, value, path)?;
-    note(way, below.nodes, kind, known);
-    Some(Below { nodes: below.nodes + 1, known })
+    let known = enter(key, below.known, node)?;
+    note(way, below.nodes, u8::from(node.kind), known);
+    Some(Below {
+        nodes: below.nodes + 1,
+        known,
+    })
 }
