@@ -1,18 +1,18 @@
 -- Going down to a node: what is noted. Assumes nothing.
-use mathlib.Core.Path.{◌≡◌, refl, ap₂, ◌∙◌}
+use mathlib.Core.Path.{◌≡◌, ap₂}
 use Prim.Native.Nat.{ℕ, suc, ◌+◌, ◌*◌, ◌≤◌, ◌<◌}
 use mathlib.Core.List.{List, [], ◌∷◌, ◌++◌}
 use native.Mathlib.Omega.{arith}
 use lib.ListN.{length, take}
 use lib.Seq.{length-take-le}
-use Rattle.std.specs.Prelude.{Option, Some}
+use Rattle.std.specs.Prelude.{Some}
 use Rattle.buffer.specs.Splice.{splice, region}
 use Rattle.buffer.proofs.Splice.{take_splice, take_before, length_region}
 use Rattle.rows.specs.Sizes.{value_size, path_at, node_limit}
 use Rattle.entries.specs.Slots.{slot_size}
 use Rattle.gather.specs.KeySlots.{ended_limit, known}
-use Rattle.gather.specs.Walks.{Deeper, Entered, known_strings}
-use Rattle.gather.specs.Visits.{node_size, way_size, node_of, Noted, Descended}
+use Rattle.gather.specs.Walks.{Entered}
+use Rattle.gather.specs.Visits.{node_size, way_size, node_of, Descended}
 use Rattle.gather.specs.declared.known.Known.{Known}
 use Rattle.gather.specs.declared.known.Below.{Below}
 

@@ -3,17 +3,17 @@
 use mathlib.Core.Path.{◌≡◌, refl, sym, ap, ap₂, ◌∙◌}
 use mathlib.Core.Bool.{Bool, true, cond}
 use mathlib.Core.Logic.{⊎_elim}
-use Prim.Native.Nat.{ℕ, zero, suc, ◌+◌, ◌-◌, ◌*◌, ◌≤◌, ◌<◌}
+use Prim.Native.Nat.{ℕ, zero, suc, ◌+◌, ◌*◌, ◌≤◌, ◌<◌}
 use mathlib.Core.List.{List, [], ◌∷◌, ◌++◌, append_assoc, append-nil, map}
 use native.Mathlib.Omega.{arith}
-use lib.ListN.{length, take, drop, length-append, length-map}
+use lib.ListN.{length, take, length-append, length-map}
 use lib.Dec.{ltb}
-use lib.Seq.{take_all, take-append-le, take-take, drop-drop}
+use lib.Seq.{take_all, take-append-le}
 use borrow.Author.Tests.{lt-ltb, le-ltb, eq-eqb}
 use Rattle.buffer.specs.Lists.{all, flat}
 use Rattle.buffer.specs.Splice.{splice}
 use Rattle.buffer.proofs.Lists.{map_append, flat_append, tested_append}
-use Rattle.buffer.proofs.Splice.{length_splice, splice_nil, splice_then, take_before, region_drop}
+use Rattle.buffer.proofs.Splice.{length_splice, splice_nil, splice_then, take_before}
 use Rattle.buffer.proofs.Tests.{and_left, and_right, and_both}
 use Rattle.rows.proofs.Compare.{less?}
 use Rattle.rows.proofs.Records.{length_joined, wide, record_inside}

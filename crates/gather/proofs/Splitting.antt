@@ -1,15 +1,15 @@
 -- The keys and the visits that bytes have, taken apart: those of the first suffix or node, and those behind it. Assumes nothing.
 use mathlib.Core.Path.{◌≡◌, refl, sym, ap, ap₂, ◌∙◌}
-use mathlib.Core.Bool.{Bool, true, false, ◌&&◌}
+use mathlib.Core.Bool.{Bool, true, false}
 use mathlib.Core.Logic.{⊎_elim}
-use Prim.Native.Nat.{ℕ, zero, suc, ◌+◌, ◌-◌, ◌*◌, ◌≤◌}
+use Prim.Native.Nat.{ℕ, zero, suc, ◌+◌, ◌-◌, ◌≤◌}
 use mathlib.Core.List.{List, [], ◌∷◌, ◌++◌, map}
 use native.Mathlib.Omega.{arith}
 use lib.ListN.{length, take, length-append, length-map}
-use lib.Dec.{leb}
 use lib.Seq.{length-take-le}
 use borrow.Author.Tests.{le-leb}
-use Rattle.std.specs.Prelude.{Option, Some, None, Result, Ok, Err}
+use Rattle.std.specs.Prelude.{Option, Some, None}
+use Rattle.std.specs.Option.{option_map}
 use Rattle.buffer.specs.Lists.{All, pick}
 use Rattle.buffer.proofs.Lists.{no_items, pick_append, map_append}
 use Rattle.buffer.specs.Splice.{region}
@@ -23,16 +23,15 @@ use Rattle.trie_theory.specs.Size.{height}
 use Rattle.trie_theory.specs.Encode.{Regular, encode}
 use Rattle.trie_read.specs.Shape.{Fixed}
 use Rattle.trie_read.specs.Kinds.{byte_of_kind, number_of}
-use Rattle.trie_read.specs.Heads.{Head, head_of, head_in, head_told, body_of}
-use Rattle.trie_read.specs.Suffixes.{suffixes_bytes, tail_of, tail_in, tail_told}
-use Rattle.trie_read.specs.declared.head.Malformed.{Malformed}
+use Rattle.trie_read.specs.Heads.{Head, head_of, head_in}
+use Rattle.trie_read.specs.Suffixes.{suffixes_bytes, tail_of, tail_in}
 use Rattle.trie_read.specs.declared.head.Node.{Node}
 use Rattle.trie_read.specs.declared.suffixes.Suffix.{Suffix}
 use Rattle.trie_read.specs.declared.kind.Dimension.{Dimension}
 use Rattle.trie_read.specs.declared.kind.Kind.{Kind}
 use Rattle.trie_read.specs.declared.kind.Kind.TheVariants.{Leaf, Inner}
 use Rattle.trie_read.proofs.KindBytes.{byte_back}
-use Rattle.trie_read.proofs.Node.{leaf_view, inner_view, head_end, head_is, kind?, told_some}
+use Rattle.trie_read.proofs.Node.{leaf_view, inner_view, head_end, head_is, kind?}
 use Rattle.trie_read.proofs.Suffix.{tail_end, tail_at}
 pub use Rattle.trie_read.proofs.Among.{seen_key}
 use Rattle.gather.specs.KeySlots.{ended_limit, has_slot, has_room, known, suffix_key}
@@ -55,20 +54,14 @@ none_picked : (k : Strings) (ts : List Key) → ts ≡ [] → pick has_slot (map
 unfolding pick
 none_picked k ts e = rw e
 
--- where no suffix is read there is none
-no_suffix : (r : Result (Option Suffix) Malformed) (ts : List Key) → tail_told r ≡ Ok (tail_of ts) → ((x : Suffix) → r ≡ Ok (Some x) → ⊥) → ts ≡ []
-no_suffix (Ok None) ts e n = tail_end ts cc
-no_suffix (Ok (Some x)) ts e n = absurd (n x refl)
-no_suffix (Err m) ts e n = absurd cc
+suffix_read : (r : Option Suffix) (ts : List Key) (x : Suffix) → option_map tail_in r ≡ tail_of ts → r ≡ Some x → Some (tail_in x) ≡ tail_of ts
+suffix_read r ts x e q = rw q at e
 
-suffix_read : (r : Result (Option Suffix) Malformed) (ts : List Key) (x : Suffix) → tail_told r ≡ Ok (tail_of ts) → r ≡ Ok (Some x) → Some (tail_in x) ≡ tail_of ts
-suffix_read r ts x e q = let z : Ok (Some (tail_in x)) ≡ Ok (tail_of ts) = rw q at e in cc
+module _ {k : Strings} {t : List ℕ} {r : Option Suffix} (is : (us : List Key) → All Fixed us → t ≡ suffixes_bytes us → option_map tail_in r ≡ tail_of us) where
+  pub suffix_end : r ≡ None → (ks : List Key) → SuffixKeys k t ks → ks ≡ []
+  suffix_end e ks s = s.is ∙ none_picked k s.suffixes (tail_end s.suffixes (rw e at (is s.suffixes s.fixed s.bytes)))
 
-module _ {k : Strings} {t : List ℕ} {r : Result (Option Suffix) Malformed} (is : (us : List Key) → All Fixed us → t ≡ suffixes_bytes us → tail_told r ≡ Ok (tail_of us)) where
-  pub suffix_end : ((x : Suffix) → r ≡ Ok (Some x) → ⊥) → (ks : List Key) → SuffixKeys k t ks → ks ≡ []
-  suffix_end n ks s = s.is ∙ none_picked k s.suffixes (no_suffix r s.suffixes (is s.suffixes s.fixed s.bytes) n)
-
-  pub suffix_split : (x : Suffix) → r ≡ Ok (Some x) → (ks : List Key) → SuffixKeys k t ks
+  pub suffix_split : (x : Suffix) → r ≡ Some x → (ks : List Key) → SuffixKeys k t ks
       → Two (λ xs. xs ≡ pick has_slot (suffix_key k x.value.now x.path.now x.reference.now ∷ [])) (SuffixKeys k x.rest.now) ks
   suffix_split x e ks s =
       let v = tail_at s.suffixes (tail_in x) s.fixed (suffix_read r s.suffixes x (is s.suffixes s.fixed s.bytes) e) in
@@ -85,10 +78,10 @@ module _ {k : Strings} {t : List ℕ} {r : Result (Option Suffix) Malformed} (is
       }
 
   module _ {n : ℕ} {way : List ℕ} where
-    pub visits_end : ((x : Suffix) → r ≡ Ok (Some x) → ⊥) → (vs : List Visit) → SuffixVisits n way k t vs → vs ≡ []
+    pub visits_end : r ≡ None → (vs : List Visit) → SuffixVisits n way k t vs → vs ≡ []
     visits_end h vs s = s.is ∙ ap (map (visit n way)) (suffix_end h s.keys s.has)
 
-    pub visits_split : (x : Suffix) → r ≡ Ok (Some x) → (vs : List Visit) → SuffixVisits n way k t vs
+    pub visits_split : (x : Suffix) → r ≡ Some x → (vs : List Visit) → SuffixVisits n way k t vs
         → Two (λ xs. xs ≡ map (visit n way) (pick has_slot (suffix_key k x.value.now x.path.now x.reference.now ∷ []))) (SuffixVisits n way k x.rest.now) vs
     visits_split x e vs s =
         let w = suffix_split x e s.keys s.has in
@@ -102,11 +95,8 @@ module _ {k : Strings} {t : List ℕ} {r : Result (Option Suffix) Malformed} (is
 
 -- ---- nodes
 
--- where no node is read there is none
-no_node : (r : Result (Option Node) Malformed) (f : Forest) → head_told r ≡ Ok (head_of f) → ((x : Node) → r ≡ Ok (Some x) → ⊥) → f ≡ none
-no_node (Ok None) f e n = head_end f cc
-no_node (Ok (Some x)) f e n = absurd (n x refl)
-no_node (Err m) f e n = absurd cc
+node_read : (r : Option Node) (f : Forest) (x : Node) → option_map head_in r ≡ head_of f → r ≡ Some x → Some (head_in x) ≡ head_of f
+node_read r f x e q = rw q at e
 
 kind_told : (h : Head) (d : ℕ) (s : Strings) (children more : Forest) → Some h ≡ head_of (inner d s children more) → byte_of_kind h.kind ≡ suc d
 unfolding head_of
@@ -150,37 +140,46 @@ abbrev pub BodyVisits : Kind → ℕ → List ℕ → Strings → List ℕ → L
 BodyVisits Leaf n way k t vs = SuffixVisits n way k t vs
 BodyVisits (Inner d) n way k t vs = TrieVisits n way k t vs
 
-module _ {n : ℕ} {way : List ℕ} {k : Strings} {t : List ℕ} {r : Result (Option Node) Malformed} (is : (f : Forest) → Regular 2 f → t ≡ encode f → head_told r ≡ Ok (head_of f)) where
-  pub below_end : ((x : Node) → r ≡ Ok (Some x) → ⊥) → (vs : List Visit) → TrieVisits n way k t vs → vs ≡ []
-  below_end h vs s = s.is ∙ none_below n way k s.tries (no_node r s.tries (is s.tries s.regular s.bytes) h)
+pub body_leaf : (kind : Kind) (n : ℕ) (way : List ℕ) (k : Strings) (t : List ℕ) (vs : List Visit) → kind ≡ Leaf → SuffixVisits n way k t vs → BodyVisits kind n way k t vs
+body_leaf Leaf n way k t vs e s = s
+body_leaf (Inner d) n way k t vs e s = absurd cc
 
-  module _ (x : Node) (e : r ≡ Ok (Some x)) where
-    abbrev strings : Strings
-    strings = x.value.now ∷ x.path.now ∷ []
+pub body_inner : (kind : Kind) (d : Dimension) (n : ℕ) (way : List ℕ) (k : Strings) (t : List ℕ) (vs : List Visit) → kind ≡ Inner d → TrieVisits n way k t vs → BodyVisits kind n way k t vs
+body_inner Leaf d n way k t vs e s = let z : Inner d ≡ Leaf = sym e in absurd cc
+body_inner (Inner b) d n way k t vs e s = s
 
-    abbrev Parts : List Visit → Type 0
-    Parts = Two (BodyVisits x.kind (n + 1) (way ++ node_of (join k strings) (byte_of_kind x.kind)) (join k strings) x.body.now) (TrieVisits n way k x.rest.now)
+abbrev pub node_strings : Node → Strings
+node_strings x = x.value.now ∷ x.path.now ∷ []
 
-    read : (f : Forest) → Regular 2 f → t ≡ encode f → Some (head_in x) ≡ head_of f
-    read f g b = told_some f (is f g b) x e
+-- in two parts: those below the node x, and those behind it
+abbrev pub NodeParts : ℕ → List ℕ → Strings → Node → List Visit → Type 0
+NodeParts n way k x =
+    Two (BodyVisits x.kind (n + 1) (way ++ node_of (join k (node_strings x)) (byte_of_kind x.kind)) (join k (node_strings x)) x.body.now) (TrieVisits n way k x.rest.now)
 
-    leaf_parts : (vs : List Visit) → TrieVisits n way k t vs → x.kind ≡ Leaf → Parts vs
+module _ {n : ℕ} {way : List ℕ} {k : Strings} {t : List ℕ} {r : Option Node} (is : (f : Forest) → Regular 2 f → t ≡ encode f → option_map head_in r ≡ head_of f) where
+  pub below_end : r ≡ None → (vs : List Visit) → TrieVisits n way k t vs → vs ≡ []
+  below_end h vs s = s.is ∙ none_below n way k s.tries (head_end s.tries (rw h at (is s.tries s.regular s.bytes)))
+
+  module _ (x : Node) (e : r ≡ Some x) where
+    leaf_parts : (vs : List Visit) → TrieVisits n way k t vs → x.kind ≡ Leaf → NodeParts n way k x vs
     leaf_parts vs s z =
-        let w = leaf_view (head_in x) s.tries s.regular (read s.tries s.regular s.bytes) z in
+        let strings = node_strings x in
+        let w = leaf_view (head_in x) s.tries s.regular (node_read r s.tries x (is s.tries s.regular s.bytes) e) z in
         let own = pick has_slot (map (under (join k strings)) w.suffixes) in
         let at_leaf : SuffixVisits (n + 1) (way ++ node_of (join k strings) (byte_of_kind x.kind)) (join k strings) x.body.now (map (visit (n + 1) (way ++ node_of (join k strings) (byte_of_kind x.kind))) own) =
         record { keys = own; has = record { suffixes = w.suffixes; fixed = w.fixed; bytes = w.body_is; is = refl }; is = refl } in
         record {
           first = map (visit (n + 1) (way ++ node_of (join k strings) (byte_of_kind x.kind))) own;
           second = visits n way k w.more;
-          one = rw z at_leaf;
+          one = body_leaf x.kind _ _ _ _ _ z at_leaf;
           other = record { tries = w.more; regular = w.shaped; high = leaf_less n w.strings w.suffixes w.more (rw w.is at s.high); bytes = w.rest_is; is = refl };
           is = s.is ∙ ap (visits n way k) w.is ∙ ap (λ (l : Strings). visits n way k (leaf l w.suffixes w.more)) (sym w.strings_are) ∙ leaf_below n (byte_of_kind x.kind) way k strings w.suffixes w.more (ap byte_of_kind z);
         }
 
-    inner_parts : (vs : List Visit) → TrieVisits n way k t vs → (d : Dimension) → x.kind ≡ Inner d → Parts vs
+    inner_parts : (vs : List Visit) → TrieVisits n way k t vs → (d : Dimension) → x.kind ≡ Inner d → NodeParts n way k x vs
     inner_parts vs s d z =
-        let told = read s.tries s.regular s.bytes in
+        let told = node_read r s.tries x (is s.tries s.regular s.bytes) e in
+        let strings = node_strings x in
         let w = inner_view (head_in x) s.tries d s.regular told z in
         let h = inner_less n (number_of d) w.strings w.children w.more (rw w.is at s.high) in
         let kind : byte_of_kind x.kind ≡ suc (number_of d) = kind_told (head_in x) (number_of d) w.strings w.children w.more (told ∙ ap head_of w.is) in
@@ -189,12 +188,12 @@ module _ {n : ℕ} {way : List ℕ} {k : Strings} {t : List ℕ} {r : Result (Op
         record {
           first = visits (n + 1) (way ++ node_of (join k strings) (byte_of_kind x.kind)) (join k strings) w.children;
           second = visits n way k w.more;
-          one = rw z inside;
+          one = body_inner x.kind d _ _ _ _ _ z inside;
           other = record { tries = w.more; regular = w.shaped; high = h.1; bytes = w.rest_is; is = refl };
           is = s.is ∙ ap (visits n way k) w.is ∙ ap (λ (l : Strings). visits n way k (inner (number_of d) l w.children w.more)) (sym w.strings_are) ∙ inner_below n (byte_of_kind x.kind) way k strings (number_of d) w.children w.more kind;
         }
 
-    pub below_split : (vs : List Visit) → TrieVisits n way k t vs → Parts vs
+    pub below_split : (vs : List Visit) → TrieVisits n way k t vs → NodeParts n way k x vs
     below_split vs s = ⊎_elim (leaf_parts vs s) (λ (z : (d : Dimension) × (x.kind ≡ Inner d)). inner_parts vs s z.0 z.1) (kind? x.kind)
 
 -- ---- keys
@@ -273,9 +272,9 @@ visits_keys n way k (inner d s children more) =
 no_visits : (vs : List Visit) → map (λ (x : Visit). x.key) vs ≡ [] → vs ≡ []
 no_visits vs e = no_items vs (sym (length-map vs (λ (x : Visit). x.key)) ∙ ap length e)
 
-pub long_visits : {kind : Kind} {n : ℕ} {way : List ℕ} {k : Strings} {t : List ℕ} → Long k → (vs : List Visit) → BodyVisits kind n way k t vs → vs ≡ []
-long_visits {kind = Leaf} {n} {way} {k} h vs s = s.is ∙ ap (map (visit n way)) (s.has.is ∙ long_suffixes k s.has.suffixes h)
-long_visits {kind = Inner d} {n} {way} {k} h vs s = s.is ∙ no_visits (visits n way k s.tries) (visits_keys n way k s.tries ∙ long_keys k s.tries h)
+pub long_visits : (kind : Kind) (n : ℕ) (way : List ℕ) (k : Strings) (t : List ℕ) → Long k → (vs : List Visit) → BodyVisits kind n way k t vs → vs ≡ []
+long_visits Leaf n way k t h vs s = s.is ∙ ap (map (visit n way)) (s.has.is ∙ long_suffixes k s.has.suffixes h)
+long_visits (Inner d) n way k t h vs s = s.is ∙ no_visits (visits n way k s.tries) (visits_keys n way k s.tries ∙ long_keys k s.tries h)
 
 -- known bytes and strings that have no room behind them
 pub long_known : (k a b : List ℕ) (v p : ℕ) → length k ≡ slot_size → v ≤ value_size → p ≤ ended_limit

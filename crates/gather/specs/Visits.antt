@@ -1,5 +1,5 @@
 -- What a walk over tries visits: each key that has a slot, with the nodes above it. Assumes nothing: these are definitions.
-use Rattle.std.specs.Prelude.{ℕ, suc, ◌+◌, ◌*◌, ◌≤◌, ◌<◌, ◌≡◌, Bool, true, false, ◌&&◌, List, [], ◌∷◌, ◌++◌, map, length, take, eqb, leb, Option, MatchOption}
+use Rattle.std.specs.Prelude.{ℕ, suc, ◌+◌, ◌*◌, ◌≤◌, ◌<◌, ◌≡◌, Bool, false, ◌&&◌, List, [], ◌∷◌, ◌++◌, map, length, take, eqb, leb, Option, MatchOption}
 use Rattle.buffer.specs.Sizes.{word_limit}
 use Rattle.buffer.specs.Lists.{pick}
 use Rattle.rows.specs.Sizes.{node_limit}
@@ -81,4 +81,5 @@ pub record Ready (width : ℕ) (t : List ℕ) (o : Output) : Type 0 where
 pub record Walked (row : ℕ → List ℕ → List ℕ → List ℕ) (Has : List Visit → Type 0) (x : Below) (t : List ℕ) (o o' : Output) (k k' : List ℕ) : Type 0 where
   pub few : o'.rows ≤ o.rows + length t
   pub room : o'.room ≡ o.room
+  pub same_reference : o'.bytes.ghost_name ≡ o.bytes.ghost_name
   pub put : PutBy made (row_of row) Has x.known.value x.known.path 0 o.room o.rows o.bytes.now k o'.bytes.now k' o'.rows

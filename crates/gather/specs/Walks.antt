@@ -1,12 +1,8 @@
 -- What a walk over tries in bytes writes: for each key that has a slot some bytes, one after another. Assumes nothing: these are definitions.
-use Rattle.std.specs.Prelude.{ℕ, ◌+◌, ◌-◌, ◌*◌, ◌≤◌, ◌<◌, ◌≡◌, Bool, true, false, cond, List, [], ◌∷◌, map, length, take, ltb, Option, MatchOption}
+use Rattle.std.specs.Prelude.{ℕ, ◌+◌, ◌*◌, ◌≡◌, Bool, true, false, cond, List, [], ◌∷◌, map, length, take, ltb, Option, MatchOption}
 use Rattle.buffer.specs.Lists.{all, All, pick, flat}
 use Rattle.buffer.specs.Splice.{splice}
-use Rattle.buffer.specs.Sizes.{word_limit}
-use Rattle.trie_theory.specs.Forest.{Strings, Key, Forest, join, under, keys}
-use Rattle.trie_theory.specs.Size.{height}
-use Rattle.trie_theory.specs.Encode.{Regular, encode}
-use Rattle.entries.specs.Slots.{slot_size}
+use Rattle.trie_theory.specs.Forest.{Strings, Key, join, under}
 use Rattle.trie_read.specs.Shape.{Fixed}
 use Rattle.trie_read.specs.Suffixes.{suffixes_bytes}
 use Rattle.gather.specs.KeySlots.{has_slot, has_room, known}

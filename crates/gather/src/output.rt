@@ -6,6 +6,7 @@ ghost use Rattle.buffer.specs.Splice.{splice};
 use buffer::moves::copy_from;
 
 // All rows are counted, and the first `room` of them written.
+#[derive(Drop)]
 pub struct Output<'a> {
     pub bytes: &'a mut [u8],
     pub room: usize,
@@ -17,6 +18,7 @@ impl Output<'_> {
     pub fn put(&mut self, row: &[u8])
         requires { (self.old.room * length row.now ≤ length self.old.bytes.now) × (self.old.rows + 1 < word_limit) }
         ensures bytes { self.new.bytes.now ≡ cond (ltb self.old.rows self.old.room) (splice self.old.bytes.now (self.old.rows * length row.now) row.now) self.old.bytes.now }
+        ensures same_reference { self.new.bytes.ghost_name ≡ self.old.bytes.ghost_name }
         ensures room { self.new.room ≡ self.old.room }
         ensures rows { self.new.rows ≡ self.old.rows + 1 }
     {

@@ -15,7 +15,7 @@ struct Slots;
 impl Format for Slots {
     ghost width = { slot_size };
 
-    ghost row = { λ n way slot. slot };
+    ghost slot_row = { λ n way slot. slot };
 
     fn put(output: &mut Output<'_>, key: &[u8; SLOT_SIZE], _way: &[u8; WAY_SIZE], _n: usize) {
         output.put(key);
@@ -32,7 +32,11 @@ pub fn gather(s: &mut [u8], from: usize, to: usize, out: usize, room: usize) -> 
     let mut key = [0u8; SLOT_SIZE];
     let mut way = [0u8; WAY_SIZE];
     let (tries, bytes) = s.split_at_mut(out);
-    let mut output = Output { bytes, room, rows: 0 };
+    let mut output = Output {
+        bytes,
+        room,
+        rows: 0,
+    };
     walk::<Slots>(&tries[from..to], ROOT, &mut key, &mut way, &mut output);
     output.rows.min(room)
 }
