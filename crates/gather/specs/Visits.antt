@@ -1,10 +1,9 @@
 -- What a walk over tries visits: each key that has a slot, with the nodes above it. Assumes nothing: these are definitions.
-use Rattle.std.specs.Prelude.{ℕ, suc, ◌+◌, ◌*◌, ◌≤◌, ◌<◌, ◌≡◌, Bool, false, ◌&&◌, List, [], ◌∷◌, ◌++◌, map, length, take, eqb, leb, Option, MatchOption}
+use Rattle.std.specs.Prelude.{ℕ, suc, ◌+◌, ◌*◌, ◌≤◌, ◌<◌, ◌≡◌, Bool, false, ◌&&◌, List, [], ◌∷◌, ◌++◌, map, length, take, get_or, eqb, leb, Option, MatchOption}
 use Rattle.buffer.specs.Sizes.{word_limit}
 use Rattle.buffer.specs.Lists.{pick}
 use Rattle.rows.specs.Sizes.{node_limit}
 use Rattle.trie_theory.specs.Forest.{Strings, Key, Forest, none, leaf, inner, join, under}
-use Rattle.trie_theory.specs.Strings.{at}
 use Rattle.trie_theory.specs.Size.{height}
 use Rattle.trie_theory.specs.Encode.{Regular, encode}
 use Rattle.gather.specs.KeySlots.{has_slot, has_room, key_slot}
@@ -21,7 +20,7 @@ way_size = node_size * node_limit
 
 -- the bytes of a node of a kind at which the bytes k are known: positions are counted from 1
 unfoldable pub node_of : Strings → ℕ → List ℕ
-node_of k kind = kind ∷ suc (length (at 1 k)) ∷ suc (length (at 0 k)) ∷ []
+node_of k kind = kind ∷ get_or (map (λ s. suc (length s)) k) 1 0 ∷ get_or (map (λ s. suc (length s)) k) 0 0 ∷ []
 
 -- A node is entered and noted, if its strings have room
 pub record Noted (x : Below) (value path : List ℕ) (kind : ℕ) (k w k' w' : List ℕ) (y : Below) : Type 0 where
