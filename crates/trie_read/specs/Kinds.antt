@@ -1,5 +1,5 @@
 -- Kinds of nodes and dimensions in the words of the theory of tries, which has numbers for them. Assumes nothing: these are definitions.
-use Rattle.std.specs.Prelude.{ℕ, zero, suc, ◌+◌, ◌-◌}
+use Rattle.std.specs.Prelude.{ℕ, zero, suc, ◌-◌}
 use Rattle.trie_read.specs.declared.kind.Dimension.{Dimension}
 use Rattle.trie_read.specs.declared.kind.Dimension.TheVariants.{Value, Path, Other}
 use Rattle.trie_read.specs.declared.kind.Kind.{Kind}
@@ -9,7 +9,7 @@ use Rattle.trie_read.specs.declared.kind.Kind.TheVariants.{Leaf, Inner}
 abbrev pub number_of : Dimension → ℕ
 number_of Value = 0
 number_of Path = 1
-number_of (Other b) = 2 + (b - 3)
+number_of (Other b) = suc (suc (b - 3))
 
 -- the kind of a node with this first byte: 0 a leaf, one more than the dimension's number for an inner node
 abbrev pub kind_of_byte : ℕ → Kind

@@ -1,9 +1,9 @@
 // Reading the first node of some bytes.
-ghost use Rattle.std.specs.Prelude.{◌≡◌, ◌<◌, length, Ok};
+ghost use Rattle.std.specs.Prelude.{◌≡◌, ◌<◌, length, Ok, IfSome, option_map};
 ghost use Rattle.buffer.specs.Sizes.{four_byte_limit};
 ghost use Rattle.trie_theory.specs.Forest.{Forest};
 ghost use Rattle.trie_theory.specs.Encode.{Regular, encode};
-ghost use Rattle.trie_read.specs.Heads.{head_of, head_told, InBytes};
+ghost use Rattle.trie_read.specs.Heads.{head_of, head_in, head_told, InBytes, Stands};
 
 use crate::kind::Kind;
 use crate::sizes::HEAD_SIZE;
@@ -35,6 +35,7 @@ pub fn wide32(x: u32) -> usize
 }
 
 // The first of tries side by side; `Ok(None)` where there are no bytes.
+#[inline]
 pub fn read_head(t: &[u8]) -> Result<Option<Node<'_>>, Malformed>
     ensures inside { InBytes t.now result }
     ensures value { (f : Forest) → Regular 2 f → t.now ≡ encode f → head_told result ≡ Ok (head_of f) }
@@ -58,4 +59,16 @@ pub fn read_head(t: &[u8]) -> Result<Option<Node<'_>>, Malformed>
         body: &t[body..next],
         rest: &t[next..],
     }))
+}
+
+// The same for walks, which end where no node begins, whatever the bytes there are.
+#[inline]
+pub fn first_node(t: &[u8]) -> Option<Node<'_>>
+    ensures inside { IfSome result (λ n. Stands t.now n) }
+    ensures value { (f : Forest) → Regular 2 f → t.now ≡ encode f → option_map head_in result ≡ head_of f }
+{
+    match read_head(t) {
+        Ok(node) => node,
+        Err(Malformed) => None,
+    }
 }

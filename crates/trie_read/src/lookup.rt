@@ -9,7 +9,7 @@ ghost use Rattle.trie_theory.specs.Lookup.{member};
 ghost use Rattle.trie_theory.specs.Encode.{Regular, encode};
 ghost use Rattle.trie_read.specs.Shape.{key_of, above_of};
 
-use crate::head::read_head;
+use crate::head::first_node;
 use crate::kind::{Dimension, Kind};
 use crate::strings::branch_byte;
 use crate::suffixes::has_suffix;
@@ -42,7 +42,7 @@ pub fn contains(tries: &[u8], value: &[u8], path: &[u8], reference: &[u8]) -> bo
     let mut v = value;
     let mut p = path;
     let mut above = None;
-    while let Ok(Some(node)) = read_head(t) {
+    while let Some(node) = first_node(t) {
         if !same_branch(above, node.value, node.path, v, p) {
             t = node.rest;
             continue;

@@ -13,7 +13,17 @@ pub const NO_BYTE: u16 = 256;
 pub fn common_length(a: &[u8], b: &[u8]) -> usize
     ensures { (result ≡ length (common a.now b.now)) × (result ≤ length a.now) × (result ≤ length b.now) }
 {
-    a.iter().zip(b).take_while(|(x, y)| x == y).count()
+    let mut i: usize = 0;
+    while i < a.len() {
+        if i == b.len() {
+            return i;
+        }
+        if a[i] != b[i] {
+            return i;
+        }
+        i += 1;
+    }
+    i
 }
 
 // The first byte, or NO_BYTE.

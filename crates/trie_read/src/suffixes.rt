@@ -1,10 +1,10 @@
 // The suffixes of a leaf, one after another: v | p | reference, 20 bytes | v value bytes | p path bytes.
-ghost use Rattle.std.specs.Prelude.{◌≡◌, List, Ok};
+ghost use Rattle.std.specs.Prelude.{◌≡◌, List, Ok, IfSome, option_map};
 ghost use Rattle.trie_theory.specs.Forest.{Key};
 ghost use Rattle.buffer.specs.Lists.{All};
 ghost use Rattle.trie_theory.specs.Lookup.{among, same_key};
 ghost use Rattle.trie_read.specs.Shape.{Fixed, key_of};
-ghost use Rattle.trie_read.specs.Suffixes.{suffixes_bytes, tail_of, tail_told, WithinBytes};
+ghost use Rattle.trie_read.specs.Suffixes.{suffixes_bytes, tail_of, tail_in, tail_told, WithinBytes, SuffixStands};
 
 use crate::head::Malformed;
 use crate::sizes::SUFFIX_SIZE;
@@ -28,6 +28,7 @@ impl Suffix<'_> {
 }
 
 // The first of suffixes; `Ok(None)` where there are no bytes.
+#[inline]
 pub fn read_suffix(b: &[u8]) -> Result<Option<Suffix<'_>>, Malformed>
     ensures within { WithinBytes b.now result }
     ensures value { (ts : List Key) → All Fixed ts → b.now ≡ suffixes_bytes ts → tail_told result ≡ Ok (tail_of ts) }
@@ -51,12 +52,24 @@ pub fn read_suffix(b: &[u8]) -> Result<Option<Suffix<'_>>, Malformed>
     }))
 }
 
+// The same for walks, which end where no suffix begins, whatever the bytes there are.
+#[inline]
+pub fn first_suffix(b: &[u8]) -> Option<Suffix<'_>>
+    ensures within { IfSome result (λ x. SuffixStands b.now x) }
+    ensures value { (ts : List Key) → All Fixed ts → b.now ≡ suffixes_bytes ts → option_map tail_in result ≡ tail_of ts }
+{
+    match read_suffix(b) {
+        Ok(suffix) => suffix,
+        Err(Malformed) => None,
+    }
+}
+
 // Is a key with these bytes left one of the suffixes?
 pub fn has_suffix(body: &[u8], value: &[u8], path: &[u8], reference: &[u8]) -> bool
     ensures { (ts : List Key) → All Fixed ts → body.now ≡ suffixes_bytes ts → result ≡ among (key_of value.now path.now reference.now) ts }
 {
     let mut b = body;
-    while let Ok(Some(suffix)) = read_suffix(b) {
+    while let Some(suffix) = first_suffix(b) {
         if suffix.is(value, path, reference) {
             return true;
         }
