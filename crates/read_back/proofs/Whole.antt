@@ -26,7 +26,7 @@ use Rattle.gather.proofs.Splitting.{keys_root}
 use Rattle.gather.proofs.Turning.{length_made}
 use Rattle.read_back.specs.Readings.{record_bytes, is_record, trie_record, TrieBytes, TrieRead}
 use Rattle.read_back.specs.Walks.{node_of, key_record, records_below}
-use Rattle.read_back.proofs.Writes.{length_record}
+use Rattle.read_back.specs.RecordLength.{length_record}
 use Rattle.read_back.proofs.Ways.{way_record, records_walk, walk_root}
 
 -- ---- the records of visits
@@ -50,7 +50,7 @@ visits_records n way k (inner d s children more) =
 all_records : (vs : List Visit) → all made vs ≡ true → all is_record (map (row_of record_bytes) vs) ≡ true
 all_records [] h = refl
 all_records (v ∷ vs) h =
-    let long = length_made record_bytes record_size (λ n way k a b c. length_record n k way a b c) v (and_left (made v) (all made vs) h) in
+    let long = length_made record_bytes record_size length_record v (and_left (made v) (all made vs) h) in
     and_both (eq-eqb (length (row_of record_bytes v)) record_size long) (all_records vs (and_right (made v) (all made vs) h))
 
 joined_rows : (room : ℕ) (vs : List Visit) → joined (row_of record_bytes) (take room vs) ≡ flat (take room (map (row_of record_bytes) vs))
@@ -68,19 +68,20 @@ whole f b =
     ∙ ap (map (λ x. way_record 0 [] (walk ([] ∷ [] ∷ []) f x) x)) (ap (pick has_slot) (keys_root f b.regular) ∙ pick_all has_slot (keys [] f) b.slots)
     ∙ map_agree (all_every (keys [] f) (λ x. ap (λ (l : List Step). way_record 0 [] l x) (walk_root f x b.regular) ∙ whole_way f x))
 
-pub trie_read : {t : List ℕ} {room : ℕ} {s k k' way : List ℕ} {x : Below} {o o' : Output} (w : Walked record_bytes (TrieVisits 0 [] (known 0 0 k) t) x t o o' k k')
-    → o.bytes.now ≡ s → o.room ≡ room → o.rows ≡ 0 → room * record_size ≤ length s → TrieRead t room s o'.bytes.now o'.rows
-trie_read {t} {room} {s} {k} {k'} {way} {x} {o} {o'} w old full none fits =
+pub trie_read : {t : List ℕ} {room r : ℕ} {s s' k k' : List ℕ} {x : Below} {o o' : Output} (w : Walked record_bytes (TrieVisits 0 [] (known 0 0 k) t) x t o o' k k')
+    → o.bytes.now ≡ s → o.room ≡ room → o.rows ≡ 0 → room * record_size ≤ length s → s' ≡ o'.bytes.now → r ≡ o'.rows → TrieRead t room s s' r
+trie_read {t} {room} {r} {s} {s'} {k} {k'} {x} {o} {o'} w old full begins fits new count =
     let put = w.put.put in
     record {
       put = map (row_of record_bytes) put;
       fit = all_records put w.put.fit;
       count = omega (arith, w.put.count, length-map put (row_of record_bytes));
       few = omega (arith, w.few);
-      long = w.put.long ∙ ap length old;
+      long = ap length new ∙ w.put.long ∙ ap length old;
       writes =
-          rw (full, none, old) at w.put.writes
-          ∙ written_first (row_of record_bytes) record_size (length_made record_bytes record_size (λ n way k a b c. length_record n k way a b c)) 0 room put s w.put.fit (omega arith)
+          new
+          ∙ rw (full, begins, old) at w.put.writes
+          ∙ written_first (row_of record_bytes) record_size (length_made record_bytes record_size length_record) 0 room put s w.put.fit (omega arith)
           ∙ ap (splice s 0) (joined_rows room put);
       are = λ f b.
           ap (map (row_of record_bytes)) (w.put.are (visits 0 [] (known 0 0 k) f) record { tries = f; regular = b.regular; high = omega (arith, b.high); bytes = b.bytes; is = refl })

@@ -24,11 +24,6 @@ module _ (n : ℕ) (k way : List ℕ) (long : length k ≡ slot_size) (ways : le
   length_row : length row ≡ row_size
   length_row = length-take-le row_size k (omega arith)
 
-  pub length_record : length (record_bytes n way k) ≡ record_size
-  unfolding record_bytes
-  length_record =
-      omega (arith, length_row, length-append row (n ∷ (way ++ zeros)), length-append way zeros, length-replicate {A = ℕ} (node_size * (node_limit - n)) 0)
-
   module _ (s : List ℕ) (at : ℕ) (fit : at + record_size ≤ length s) where
     counted : set (splice s at row) (at + row_size) n ≡ splice s at (row ++ (n ∷ []))
     counted = let e : at + length row ≡ at + row_size = omega (arith, length_row) in rw e at (splice_snoc s at row n (omega (arith, length_row)))

@@ -4,7 +4,7 @@ ghost use Rattle.buffer.specs.Sizes.{word_limit};
 ghost use Rattle.buffer.specs.Splice.{splice};
 ghost use Rattle.rows.specs.Sizes.{node_limit, record_size};
 ghost use Rattle.read_back.specs.Readings.{node_size, record_bytes};
-ghost use Rattle.read_back.proofs.Writes.{length_record};
+ghost use Rattle.read_back.specs.RecordLength.{length_record};
 
 use buffer::moves::{clear, copy_from};
 use entries::SLOT_SIZE;
@@ -48,5 +48,5 @@ impl Format for Records {
         put_record(output, key, way, n);
     }
 
-    ghost even = { λ n way slot long ways few. length_record n slot way long ways few };
+    ghost even = { λ n way slot long ways few. length_record n way slot long ways few };
 }

@@ -5,4 +5,4 @@ use Rattle.read_back.proofs.Whole.{trie_read}
 use Rattle.read_back.proofs.walk.read_trie.Goals as goal
 
 pub returns : goal.returns
-returns c = let read = trie_read c.walk.ensures.walked refl refl refl c.requires in ?
+returns c = let w = c.walk.ensures.walked in trie_read w refl refl refl c.requires (search (rules, w.same_reference)) refl
