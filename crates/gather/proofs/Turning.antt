@@ -1,6 +1,6 @@
 -- The turns of the two loops of a walk: over the suffixes of a leaf, and over siblings. Assumes nothing.
 use mathlib.Core.Path.{◌≡◌, refl, sym, ap, ap₂, ◌∙◌}
-use mathlib.Core.Bool.{true, false, cond}
+use mathlib.Core.Bool.{Bool, true, false, cond}
 use Prim.Native.Nat.{ℕ, ◌+◌, ◌*◌, ◌≤◌}
 use mathlib.Core.List.{List, [], ◌∷◌, ◌++◌, map}
 use native.Mathlib.Omega.{arith}
@@ -31,6 +31,7 @@ use Rattle.gather.specs.Walks.{known_strings}
 use Rattle.gather.specs.Visits.{node_size, node_of, Visit, visit, made, row_of, SuffixVisits, TrieVisits, Walked, Descended}
 use Rattle.gather.specs.declared.known.Below.{Below}
 use Rattle.gather.specs.declared.output.Output.{Output}
+use Rattle.gather.specs.Outputs.{RowPut}
 use Rattle.gather.proofs.Filling.{length_slot, slot_kept, known_less}
 use Rattle.gather.proofs.Putting.{GoingBy, put_in, put_as, put_none, put_one, going_from, going_end, going_on}
 use Rattle.gather.proofs.Splitting.{pick_one, pick_not, long_known, node_strings, visits_end, visits_split, below_end, below_split, BodyVisits, long_visits}
@@ -90,29 +91,32 @@ module _ {row : Row} {Has : List Visit → Type 0} {x : Below} {way t₀ t k₀ 
     now_key : key ≡ suffix_key (known_strings x.known k₀) y.value.now y.path.now y.reference.now
     now_key = ap (λ (z : Strings). suffix_key z y.value.now y.path.now y.reference.now) l.by.so.kept
 
-    pub suffixes_put : {o' : Output} {k' : List ℕ} (width : ℕ) (even : (n : ℕ) (w z : List ℕ) → length z ≡ slot_size → length w ≡ node_size * n → n ≤ node_limit → length (row n w z) ≡ width)
-        → length k ≡ slot_size → length way ≡ node_size * x.nodes → o₀.room * width ≤ length o₀.bytes.now → has_slot key ≡ true → k' ≡ key_slot key
-        → o'.bytes.now ≡ cond (ltb o.rows o.room) (splice o.bytes.now (o.rows * width) (row x.nodes way k')) o.bytes.now → o'.room ≡ o.room → o'.bytes.ghost_name ≡ o.bytes.ghost_name → o'.rows ≡ o.rows + 1
-        → Going row Has (SuffixVisits x.nodes way (known_strings x.known k₀) y.rest.now) x t₀ y.rest.now o₀ o' k₀ k'
-    suffixes_put {o'} {k'} width even buffer ways fits has f w same reference more =
+    pub suffixes_put : {o' : Output} {k' : List ℕ} {b : Bool} (width : ℕ) (even : (n : ℕ) (w z : List ℕ) → length z ≡ slot_size → length w ≡ node_size * n → n ≤ node_limit → length (row n w z) ≡ width)
+        → length k ≡ slot_size → length way ≡ node_size * x.nodes → o₀.room * width ≤ length o₀.bytes.now → b ≡ has_slot key → k' ≡ cond b (key_slot key) k → b ≡ true
+        → RowPut width (row x.nodes way k') o o' → Going row Has (SuffixVisits x.nodes way (known_strings x.known k₀) y.rest.now) x t₀ y.rest.now o₀ o' k₀ k'
+    suffixes_put {o'} {k'} width even buffer ways fits told after is_true w =
+        let has : has_slot key ≡ true = sym told ∙ is_true in
+        let f : k' ≡ key_slot key = rw is_true at after in
         let v = visit x.nodes way key in
         let kept : known_strings x.known k' ≡ known_strings x.known k = ap (known_strings x.known) f ∙ slot_kept k y.value.now y.path.now y.reference.now x.known.value x.known.path buffer x.known.value_fits x.known.path_fits has in
         let wrote : o'.bytes.now ≡ cond (ltb o.rows o₀.room) (splice o.bytes.now (0 + o.rows * width) (row_of row v)) o.bytes.now =
         let z : 0 + o.rows * width ≡ o.rows * width = omega arith in
-        w ∙ rw (z, l.room, f) refl in
+        w.bytes ∙ rw (z, l.room, f) refl in
         let one = put_one (row_of row) width (length_made row width even) 0 o₀.room o.rows o.bytes.now o'.bytes.now v (made_visit x.nodes way key has ways x.nodes_fit) (omega (arith, l.by.so.long)) wrote kept in
         record {
-          few = omega (arith, l.few);
-          room = same ∙ l.room;
-          same_reference = reference ∙ l.same_reference;
-          by = rw more (going_on l.by
+          few = omega (arith, l.few, w.rows);
+          room = w.room ∙ l.room;
+          same_reference = w.same_reference ∙ l.same_reference;
+          by = rw w.rows (going_on l.by
               (put_as one (λ vs q. one.are vs (q ∙ ap (λ (z : Key). map (visit x.nodes way) (pick has_slot (z ∷ []))) (sym now_key) ∙ ap (map (visit x.nodes way)) (pick_one has_slot key has))))
               (visits_split is y e));
         }
 
-    pub suffixes_pass : {k' : List ℕ} → has_slot key ≡ false → k' ≡ k
+    pub suffixes_pass : {k' : List ℕ} {b : Bool} → b ≡ has_slot key → k' ≡ cond b (key_slot key) k → b ≡ false
         → Going row Has (SuffixVisits x.nodes way (known_strings x.known k₀) y.rest.now) x t₀ y.rest.now o₀ o k₀ k'
-    suffixes_pass {k'} has f =
+    suffixes_pass {k'} told after is_false =
+        let has : has_slot key ≡ false = sym told ∙ is_false in
+        let f : k' ≡ k = rw is_false at after in
         record {
           few = omega (arith, l.few);
           room = l.room;

@@ -1,10 +1,9 @@
 // A walk over the keys of tries. Of what it writes for them the first rows that have room go into the output, and all are counted: with a room of 0
 // it only counts. On bytes that are no trie's it returns all the same, with at most NODE_LIMIT nested calls.
 ghost use Rattle.std.specs.Prelude.{◌≡◌, cond, ℕ, ◌+◌, ◌*◌, ◌<◌, ◌≤◌, List, length, ltb, take};
-ghost use Rattle.buffer.specs.Sizes.{word_limit};
-ghost use Rattle.buffer.specs.Splice.{splice};
 ghost use Rattle.rows.specs.Sizes.{node_limit};
 ghost use Rattle.entries.specs.Slots.{slot_size};
+ghost use Rattle.gather.specs.Outputs.{CanPut, RowPut};
 ghost use Rattle.gather.specs.Walks.{known_strings};
 ghost use Rattle.gather.specs.Visits.{node_size, SuffixVisits, TrieVisits, Ready, Walked};
 
@@ -26,11 +25,8 @@ pub trait Format {
 
     // Puts the row of the key whose slot is given, below n nodes of the way.
     fn put(output: &mut Output<'_>, key: &[u8; SLOT_SIZE], way: &[u8; WAY_SIZE], n: usize)
-        requires { (output.old.room * width ≤ length output.old.bytes.now) × (output.old.rows + 1 < word_limit) × (n ≤ node_limit) }
-        ensures bytes { output.new.bytes.now ≡ cond (ltb output.old.rows output.old.room) (splice output.old.bytes.now (output.old.rows * width) (slot_row n (take (node_size * n) way.now) key.now)) output.old.bytes.now }
-        ensures same_reference { output.new.bytes.ghost_name ≡ output.old.bytes.ghost_name }
-        ensures room { output.new.room ≡ output.old.room }
-        ensures rows { output.new.rows ≡ output.old.rows + 1 };
+        requires { CanPut width output.old × (n ≤ node_limit) }
+        ensures { RowPut width (slot_row n (take (node_size * n) way.now) key.now) output.old output.new };
 
     ghost even: { (n : ℕ) (way key : List ℕ) → length key ≡ slot_size → length way ≡ node_size * n → n ≤ node_limit → length (slot_row n way key) ≡ width };
 }

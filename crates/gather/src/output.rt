@@ -1,7 +1,5 @@
 // The answer of a walk: rows, slots or records of one size, one behind the other.
-ghost use Rattle.std.specs.Prelude.{◌≡◌, cond, ◌+◌, ◌*◌, ◌≤◌, ◌<◌, ltb, length};
-ghost use Rattle.buffer.specs.Sizes.{word_limit};
-ghost use Rattle.buffer.specs.Splice.{splice};
+ghost use Rattle.std.specs.Prelude.{length};
 
 use buffer::moves::copy_from;
 
@@ -14,13 +12,12 @@ pub struct Output<'a> {
 }
 
 impl Output<'_> {
+    ghost use Rattle.gather.specs.Outputs.{CanPut, RowPut};
+
     // Puts a row behind the others of its length: writes it if there is room, and counts it.
     pub fn put(&mut self, row: &[u8])
-        requires { (self.old.room * length row.now ≤ length self.old.bytes.now) × (self.old.rows + 1 < word_limit) }
-        ensures bytes { self.new.bytes.now ≡ cond (ltb self.old.rows self.old.room) (splice self.old.bytes.now (self.old.rows * length row.now) row.now) self.old.bytes.now }
-        ensures same_reference { self.new.bytes.ghost_name ≡ self.old.bytes.ghost_name }
-        ensures room { self.new.room ≡ self.old.room }
-        ensures rows { self.new.rows ≡ self.old.rows + 1 }
+        requires { CanPut (length row.now) self.old }
+        ensures { RowPut (length row.now) row.now self.old self.new }
     {
         if self.rows < self.room {
             copy_from(self.bytes, self.rows * row.len(), row);

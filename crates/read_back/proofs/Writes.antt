@@ -28,12 +28,12 @@ module _ (n : ℕ) (k way : List ℕ) (long : length k ≡ slot_size) (ways : le
     counted : set (splice s at row) (at + row_size) n ≡ splice s at (row ++ (n ∷ []))
     counted = let e : at + length row ≡ at + row_size = omega (arith, length_row) in rw e at (splice_snoc s at row n (omega (arith, length_row)))
 
-    pub recorded : splice (splice (set (splice s at row) (at + row_size) n) (at + (row_size + 1)) way) (at + (row_size + 1) + node_size * n) zeros
-        ≡ splice s at (record_bytes n way k)
+    pub recorded : (m : ℕ) → m ≡ node_size * (node_limit - n)
+        → splice (splice (set (splice s at row) (at + row_size) n) (at + (row_size + 1)) way) (at + (row_size + 1) + node_size * n) (replicate m 0) ≡ splice s at (record_bytes n way k)
     unfolding record_bytes
-    recorded =
+    recorded m e =
         let one = length-append row (n ∷ []) in
         let two = length-append (row ++ (n ∷ [])) way in
         let way_in = splice_then (set (splice s at row) (at + row_size) n) s at (row ++ (n ∷ [])) (at + (row_size + 1)) way counted (omega (arith, length_row)) (omega (arith, length_row)) in
         let rest = splice_then _ s at ((row ++ (n ∷ [])) ++ way) (at + (row_size + 1) + node_size * n) zeros way_in (omega (arith, length_row)) (omega (arith, length_row)) in
-        rest ∙ ap (splice s at) (simp append_assoc)
+        rw e (rest ∙ ap (splice s at) (simp append_assoc))

@@ -1,8 +1,7 @@
 // The record of a key: its row, the number of nodes above it, these nodes, and zeros where a deeper key has nodes.
-ghost use Rattle.std.specs.Prelude.{◌≡◌, cond, ◌+◌, ◌*◌, ◌<◌, ◌≤◌, length, take, ltb};
-ghost use Rattle.buffer.specs.Sizes.{word_limit};
-ghost use Rattle.buffer.specs.Splice.{splice};
+ghost use Rattle.std.specs.Prelude.{◌*◌, ◌≤◌, take};
 ghost use Rattle.rows.specs.Sizes.{node_limit, record_size};
+ghost use Rattle.gather.specs.Outputs.{CanPut, RowPut};
 ghost use Rattle.read_back.specs.Readings.{node_size, record_bytes};
 ghost use Rattle.read_back.specs.RecordLength.{length_record};
 
@@ -19,11 +18,8 @@ const WAY_AT: usize = COUNT_AT + 1;
 
 // Puts the record of the key whose slot is given, below n nodes of the way.
 fn put_record(output: &mut Output<'_>, key: &[u8; SLOT_SIZE], way: &[u8; WAY_SIZE], n: usize)
-    requires { (output.old.room * record_size ≤ length output.old.bytes.now) × (output.old.rows + 1 < word_limit) × (n ≤ node_limit) }
-    ensures bytes { output.new.bytes.now ≡ cond (ltb output.old.rows output.old.room) (splice output.old.bytes.now (output.old.rows * record_size) (record_bytes n (take (node_size * n) way.now) key.now)) output.old.bytes.now }
-    ensures same_reference { output.new.bytes.ghost_name ≡ output.old.bytes.ghost_name }
-    ensures room { output.new.room ≡ output.old.room }
-    ensures rows { output.new.rows ≡ output.old.rows + 1 }
+    requires { CanPut record_size output.old × (n ≤ node_limit) }
+    ensures { RowPut record_size (record_bytes n (take (node_size * n) way.now) key.now) output.old output.new }
 {
     if output.rows < output.room {
         let at = output.rows * RECORD_SIZE;

@@ -18,21 +18,20 @@ loop-suffix-preserved g c =
     let is = c.first_suffix.ensures.value in
     let e = c.in-Some.is in
     let told = c.compose.ensures in
-    let stands = c.in-Some.ensures.within in
-    let n = c.args.below.nodes in
+    let long = c.in-Some.ensures.within.long in
     let fit = c.args.below.nodes_fit in
     let wide = c.told-way in
-    let ways = length-take-le (node_size * n) c.args.way.now (omega arith) in
+    let ways = length-take-le (node_size * c.args.below.nodes) c.args.way.now (omega arith) in
     elim c.if-compose.branch [
-      | then-compose w ↦
-          record {
-            long = c.compose.array_long;
-            going = rw w.output-is
-                (suffixes_put l.invariant.going is y e stands.long g.F.Format.width g.met.F.Format.even l.invariant.long ways c.requires.fits (sym told.value ∙ w.if-compose.true)
-                (rw w.if-compose.true at told.key_after) w.put.ensures.bytes w.put.ensures.room w.put.ensures.same_reference w.put.ensures.rows);
-          }
-      | else-compose w ↦
-          record { long = c.compose.array_long; going = rw w.output-is (suffixes_pass l.invariant.going is y e stands.long (sym told.value ∙ w.if-compose.false) (rw w.if-compose.false at told.key_after)) }
+      | then-compose w ↦ record {
+        long = c.compose.array_long;
+        going = rw w.output-is
+            (suffixes_put l.invariant.going is y e long g.F.Format.width g.met.F.Format.even l.invariant.long ways c.requires.fits told.value told.key_after w.if-compose.true w.put.ensures);
+      }
+      | else-compose w ↦ record {
+        long = c.compose.array_long;
+        going = rw w.output-is (suffixes_pass l.invariant.going is y e long told.value told.key_after w.if-compose.false);
+      }
     ]
 
 pub returns : goal.returns
