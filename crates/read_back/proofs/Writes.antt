@@ -1,16 +1,15 @@
 -- What putting a record writes. Assumes nothing.
-use mathlib.Core.Path.{◌≡◌, refl, ap, ap₂, ◌∙◌}
-use mathlib.Core.Bool.{true, false}
-use Prim.Native.Nat.{ℕ, suc, ◌+◌, ◌-◌, ◌*◌, ◌≤◌, ◌<◌}
+use mathlib.Core.Path.{◌≡◌, ap, ◌∙◌}
+use Prim.Native.Nat.{ℕ, ◌+◌, ◌-◌, ◌*◌, ◌≤◌}
 use mathlib.Core.List.{List, [], ◌∷◌, ◌++◌, append_assoc}
 use native.Mathlib.Omega.{arith}
-use lib.ListN.{length, take, set, replicate, length-append, length-replicate}
+use lib.ListN.{length, take, set, replicate, length-append}
 use lib.Seq.{length-take-le}
-use Rattle.buffer.specs.Splice.{splice, region}
-use Rattle.buffer.proofs.Splice.{set_splice, splice_snoc, splice_then, take_splice, take_before, length_region}
-use Rattle.rows.specs.Sizes.{value_size, path_at, row_size, node_limit, record_size}
+use Rattle.buffer.specs.Splice.{splice}
+use Rattle.buffer.proofs.Splice.{splice_snoc, splice_then}
+use Rattle.rows.specs.Sizes.{row_size, node_limit, record_size}
 use Rattle.entries.specs.Slots.{slot_size}
-use Rattle.read_back.specs.Readings.{node_size, way_size, record_bytes}
+use Rattle.read_back.specs.Readings.{node_size, record_bytes}
 
 -- ---- a record
 

@@ -1,7 +1,6 @@
 -- Each turn puts the row of one suffix, or passes it (`Going`), and what is left is shorter.
 use native.Mathlib.Omega.{arith}
 use Prim.Native.Nat.{◌*◌}
-use mathlib.Core.Path.{sym, ◌∙◌}
 use lib.Seq.{length-take-le}
 use Rattle.gather.specs.Visits.{node_size}
 use Rattle.gather.proofs.Turning.{going_start, suffixes_done, suffixes_put, suffixes_pass}
