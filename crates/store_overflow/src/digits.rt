@@ -8,5 +8,10 @@ pub(crate) fn first_empty(l: usize, n: usize) -> Option<usize>
     requires { l ≤ l_limit }
     ensures { FirstEmpty l n result }
 {
-    (0..l).find(|j| (n >> *j) % 2 == 0)
+    for j in 0..l {
+        if (n >> j) % 2 == 0 {
+            return Some(j);
+        }
+    }
+    None
 }
