@@ -12,7 +12,7 @@ use Rattle.buffer.specs.Splice.{splice}
 use Rattle.buffer.proofs.Digits.{length_bytes_of}
 use Rattle.buffer.proofs.Lists.{all_head, all_right, all_tested}
 use Rattle.buffer.proofs.Splice.{length_splice, take_before, drop_after}
-use Rattle.rows.specs.Entry.{Entry, entry}
+use Rattle.rows.specs.Entry.{Entry}
 use Rattle.matcher.specs.Bytes.{path_limit}
 use Rattle.rows.specs.Sizes.{value_size}
 use Rattle.trie_theory.specs.Forest.{Key}

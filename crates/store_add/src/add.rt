@@ -41,7 +41,13 @@ fn admit(store: &mut [u8], front: Front, entry: &Entry<'_>) -> Added
         path: &path[..entry.path.len() + 1],
         reference: entry.reference,
     };
-    if has_entry(&Store { bytes: store, front }, &key) {
+    if has_entry(
+        &Store {
+            bytes: store,
+            front,
+        },
+        &key,
+    ) {
         return Added::AlreadyThere(front.held);
     }
     put_entry(store, front, entry, &key);

@@ -14,7 +14,7 @@ returns-then-has_entry c =
     let p = c.requires in
     let e = entry_of c.args.entry.now in
     let w = looked_up_entry c.args.front.m c.args.front.l e _ _ c.args.store.now _ (c.put64.ensures ∙ splice_whole _ _ (length_bytes_of value_size e.value))
-        (ended_is 201 e.path _ (omega (arith, p.short)) c.copy_from.ensures) c.has_entry.ensures in
+    (ended_is 201 e.path _ (omega (arith, p.short)) c.copy_from.ensures) c.has_entry.ensures in
     repeats _ _ p.accepted _ _ _ p.m_is p.l_is w c.if-has_entry.true _ p.held_is
 
 pub put_entry-requires-clause-spells : goal.put_entry-requires-clause-spells
@@ -31,6 +31,6 @@ returns c =
     let p = c.requires in
     let e = entry_of c.args.entry.now in
     let w = looked_up_entry c.args.front.m c.args.front.l e _ _ c.args.store.now _ (c.put64.ensures ∙ splice_whole _ _ (length_bytes_of value_size e.value))
-        (ended_is 201 e.path _ (omega (arith, p.short)) c.copy_from.ensures) c.has_entry.ensures in
+    (ended_is 201 e.path _ (omega (arith, p.short)) c.copy_from.ensures) c.has_entry.ensures in
     let put = c.put_entry.ensures in
     puts _ _ p.accepted _ _ _ p.m_is p.l_is w c.if-has_entry.false p.types p.enough _ _ p.tau_is p.held_is _ _ put.placed put.is

@@ -1,6 +1,6 @@
 -- Check after check.
 use native.Mathlib.Omega.{arith}
-use mathlib.Core.Path.{refl, ◌∙◌}
+use mathlib.Core.Path.{refl}
 use Rattle.std.proofs.lemmas.Result.{err_from_is_err_and}
 use Rattle.rows.specs.Entry.{entry}
 use Rattle.store_add.proofs.Checks.{path_refused, none, fine_short, not_twenty, is_full, has_space}
