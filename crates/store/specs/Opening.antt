@@ -25,6 +25,10 @@ abbrev pub OpenedAs : List ℕ → Result Store Refusal → Type 0
 OpenedAs s (Ok o) = (o.bytes.now ≡ s) × Reads s o.front × (no_store (length s) (front_of s) ≡ false)
 OpenedAs s (Err e) = (e ≡ NoStore) × (no_store (length s) (front_of s) ≡ true)
 
+-- the number of document 01 for each case
+abbrev pub opened_number : Result Store Refusal → ℕ
+opened_number o = (said done o).number
+
 -- so it is the number that a reading back, which has no other check before 11, is refused with (proved in proofs/Opening.antt)
 abbrev pub OpenedNumber : Type 0
-OpenedNumber = (s : List ℕ) (o : Result Store Refusal) → OpenedAs s o → (said done o).number ≡ read_number (length s) (front_of s)
+OpenedNumber = (s : List ℕ) (o : Result Store Refusal) → OpenedAs s o → opened_number o ≡ read_number (length s) (front_of s)

@@ -7,7 +7,8 @@ ghost use Rattle.store.specs.Listing.{Walked, Overfull, Filled, Listed};
 use crate::refusal::Refusal;
 use rows::sort::sort;
 
-// A walk over tries that writes what it finds as rows of one width.
+// A walk over tries that writes what it finds as rows of one width. It is a trait and no closure, since a clause cannot range over `Rows`; a member
+// can be it.
 pub trait Walk {
     ghost WIDTH: { ℕ };
 
