@@ -21,15 +21,8 @@ use Rattle.book.specs.Replies.{Reply, reply, result}
 use Rattle.book.specs.Step.{list}
 use Rattle.book.specs.Promises.{Accepted}
 use Rattle.book.proofs.Listing.{list_room, list_over}
-use Rattle.store.specs.Listing.{Overfull, Filled, Listed}
-
--- A walk that found n rows, and wrote the first `room` of them over the beginning of s; d is the second value. Sorted they are those of the tries
-pub record Walked (width : ℕ) (Rows : List (List ℕ) → ℕ → Type 0) (room : ℕ) (s s' : List ℕ) (n d : ℕ) : Type 0 where
-  pub put : List (List ℕ)
-  pub even : all (wide width) put ≡ true
-  pub count : n ≡ length put
-  pub writes : s' ≡ splice s 0 (flat (take room put))
-  pub are : (rows : List (List ℕ)) (second : ℕ) → Rows rows second → (sorted record_order put ≡ rows) × (d ≡ second)
+use Rattle.std.specs.Prelude.{Some, None}
+use Rattle.store.specs.Listing.{Walked, Overfull, Filled, Listed}
 
 counted : {width : ℕ} {Rows : List (List ℕ) → ℕ → Type 0} {room : ℕ} {s s' : List ℕ} {n d : ℕ} → Walked width Rows room s s' n d
     → (rows : List (List ℕ)) (second : ℕ) → Rows rows second → n ≡ length rows
@@ -37,24 +30,15 @@ counted a rows second h = a.count ∙ sym (length_sorted record_order a.put) ∙
 
 -- ---- are there more than there is room for?
 
-pub held_room : (Rows : List (List ℕ) → ℕ → Type 0) (held room : ℕ) → held ≤ room → Overfull Rows held room 0
-held_room Rows held room h =
-    record { over = λ p. absurd (omega arith); ours = λ rows second k few. ((λ z. omega arith), (λ p. absurd (omega arith))) }
+pub held_room : (Rows : List (List ℕ) → ℕ → Type 0) (held room : ℕ) → held ≤ room → Overfull Rows held room None
+held_room Rows held room h = λ rows second k few. omega arith
 
 module _ {width : ℕ} {Rows : List (List ℕ) → ℕ → Type 0} {s s' : List ℕ} {n d : ℕ} (held room : ℕ) (a : Walked width Rows 0 s s' n d) where
-  pub found_room : n ≤ room → Overfull Rows held room 0
-  found_room h =
-      record {
-        over = λ p. absurd (omega arith);
-        ours = λ rows second k few. ((λ z. omega (arith, counted a rows second k)), (λ p. absurd (omega arith)));
-      }
+  pub found_room : n ≤ room → Overfull Rows held room None
+  found_room h = λ rows second k few. omega (arith, counted a rows second k)
 
-  pub found_over : (r : ℕ) → room < held → room < n → r ≡ min n held → Overfull Rows held room r
-  found_over r h l e =
-      record {
-        over = λ p. (omega arith, omega arith);
-        ours = λ rows second k few. ((λ z. absurd (omega arith)), (λ p. omega (arith, counted a rows second k)));
-      }
+  pub found_over : (r : ℕ) → room < held → room < n → r ≡ min n held → Overfull Rows held room (Some r)
+  found_over r h l e = (omega arith, omega arith, λ rows second k few. omega (arith, counted a rows second k))
 
 -- ---- rows are written, and sorted
 
@@ -132,20 +116,20 @@ module _ {width : ℕ} {Rows : List (List ℕ) → ℕ → Type 0} {room : ℕ} 
 
 -- ---- the listing
 
-module _ {width : ℕ} {Rows : List (List ℕ) → ℕ → Type 0} {held room r : ℕ} {answer : List ℕ} (some : 0 < width) (o : Overfull Rows held room r) where
-  pub lists_over : room ≡ length answer / width → 0 < r → Listed width Rows held answer answer (reply 11 r 0)
-  lists_over e p =
-      let more : length answer < r * width = (div-lt_iff_lt-mul {k = width} {x = length answer} {y = r} some).0 (omega (arith, (o.over p).0)) in
+module _ (width : ℕ) (Rows : List (List ℕ) → ℕ → Type 0) (held room : ℕ) (answer : List ℕ) where
+  pub lists_over : (r : ℕ) → 0 < width → Overfull Rows held room (Some r) → room ≡ length answer / width → Listed width Rows held answer answer (reply 11 r 0)
+  lists_over r some o e =
+      let more : length answer < r * width = (div-lt_iff_lt-mul {k = width} {x = length answer} {y = r} some).0 (omega (arith, o.0)) in
       record {
-        otherwise = inr (record { number = refl; room = more; few = (o.over p).1; second = refl; unchanged = refl });
+        otherwise = inr (record { number = refl; room = more; few = o.1; second = refl; unchanged = refl });
         ours = λ rows second h few.
-            let z = (o.ours rows second h few).1 p in
+            let z = o.2 rows second h few in
             ap (λ (n : ℕ). result (reply 11 n 0) answer) z ∙ sym (list_over width rows second answer (omega (arith, more, ap (λ (k : ℕ). k * width) z)));
       }
 
-  pub lists_filled : {filled : List ℕ} {x : Reply} → r ≤ 0 → Filled width Rows room answer filled x → Listed width Rows held answer filled x
-  lists_filled z w =
+  pub lists_filled : {filled : List ℕ} {x : Reply} → Overfull Rows held room None → Filled width Rows room answer filled x → Listed width Rows held answer filled x
+  lists_filled o w =
       record {
         otherwise = inl w.accepted;
-        ours = λ rows second h few. w.ours rows second h ((o.ours rows second h few).0 (omega arith));
+        ours = λ rows second h few. w.ours rows second h (o rows second h few);
       }
