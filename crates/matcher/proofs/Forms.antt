@@ -6,16 +6,17 @@ use Prim.Native.Nat.{ℕ, suc, ◌+◌, ◌≤◌}
 use native.Mathlib.Omega.{arith}
 use lib.ListN.{length, get_or}
 use lib.Dec.{eqb}
+use Rattle.std.specs.Prelude.{Ok, Err}
 use Rattle.buffer.specs.Lists.{all}
 use Rattle.matcher.specs.Bytes.{slash}
 use Rattle.matcher.specs.Labels.{up_to_slash, labels_of}
 use Rattle.matcher.specs.Form.{pattern_label, labelled, formed_path, formed_pattern, too_long, too_many, path_form, pattern_form, is_fine}
 use Rattle.matcher.specs.Fit.{fits_path}
 use Rattle.matcher.specs.Matches.{matches}
-use Rattle.matcher.specs.declared.form.Form.TheVariants.{Fine, TooLong, Malformed}
+use Rattle.matcher.specs.declared.form.FormError.TheVariants.{TooLong, Malformed}
 use Rattle.buffer.proofs.Tests.{not_both, and_left, and_right}
 
-fine : (long formed : Bool) → is_fine (cond long TooLong (cond formed Fine Malformed)) ≡ true → formed ≡ true
+fine : (long formed : Bool) → is_fine (cond long (Err TooLong) (cond formed (Ok tt) (Err Malformed))) ≡ true → formed ≡ true
 fine true formed e = not_both e refl
 fine false true e = refl
 fine false false e = not_both e refl

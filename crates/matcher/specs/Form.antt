@@ -1,10 +1,10 @@
 -- How paths and patterns are formed, and the numbers of the reasons for which they are turned down. Assumes nothing: these are definitions.
-use Rattle.std.specs.Prelude.{ℕ, List, [], ◌∷◌, Bool, true, false, not, cond, ◌&&◌, ◌||◌, length, get_or, eqb, ltb}
+use Rattle.std.specs.Prelude.{ℕ, List, [], ◌∷◌, Bool, true, not, cond, ◌&&◌, ◌||◌, length, get_or, eqb, ltb, Result, Ok, Err, is_ok, ⊤}
 use Rattle.buffer.specs.Lists.{none, all}
 use Rattle.matcher.specs.Bytes.{slash, star, path_limit, pattern_label_limit, label_byte}
 use Rattle.matcher.specs.Labels.{labels_of, deep}
-use Rattle.matcher.specs.declared.form.Form.{Form}
-use Rattle.matcher.specs.declared.form.Form.TheVariants.{Fine, TooLong, Malformed}
+use Rattle.matcher.specs.declared.form.FormError.{FormError}
+use Rattle.matcher.specs.declared.form.FormError.TheVariants.{TooLong, Malformed}
 
 -- label bytes and the byte m, of which no two stand together
 abbrev pub apart : ℕ → List ℕ → Bool
@@ -38,26 +38,28 @@ too_long s = ltb path_limit (length s)
 abbrev pub too_many : List ℕ → Bool
 too_many s = ltb pattern_label_limit (length (labels_of s))
 
+-- how a path or a pattern is formed: it is fine, or turned down for a reason
+abbrev pub Form : Type 0
+Form = Result ⊤ FormError
+
 -- length is tested before form
 unfoldable pub path_form : List ℕ → Form
-path_form s = cond (too_long s) TooLong (cond (formed_path s) Fine Malformed)
+path_form s = cond (too_long s) (Err TooLong) (cond (formed_path s) (Ok tt) (Err Malformed))
 
 unfoldable pub pattern_form : List ℕ → Form
-pattern_form s = cond (too_long s || too_many s) TooLong (cond (formed_pattern s) Fine Malformed)
+pattern_form s = cond (too_long s || too_many s) (Err TooLong) (cond (formed_pattern s) (Ok tt) (Err Malformed))
 
 -- the number of document 01 for each form of a path
 abbrev pub path_number : Form → ℕ
-path_number Fine = 0
-path_number TooLong = 2
-path_number Malformed = 1
+path_number (Ok fine) = 0
+path_number (Err TooLong) = 2
+path_number (Err Malformed) = 1
 
 -- the number of document 01 for each form of a pattern
 abbrev pub pattern_number : Form → ℕ
-pattern_number Fine = 0
-pattern_number TooLong = 8
-pattern_number Malformed = 7
+pattern_number (Ok fine) = 0
+pattern_number (Err TooLong) = 8
+pattern_number (Err Malformed) = 7
 
 abbrev pub is_fine : Form → Bool
-is_fine Fine = true
-is_fine TooLong = false
-is_fine Malformed = false
+is_fine f = is_ok f

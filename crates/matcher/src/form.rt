@@ -4,7 +4,7 @@ ghost use Rattle.buffer.specs.Lists.{all};
 ghost use Rattle.glob.specs.Inner.{Begun};
 ghost use Rattle.matcher.specs.Bytes.{Marks};
 ghost use Rattle.matcher.specs.Labels.{labels_of};
-ghost use Rattle.matcher.specs.Form.{pattern_label, formed_path, formed_pattern, path_form, pattern_form, is_fine, path_number, pattern_number};
+ghost use Rattle.matcher.specs.Form.{pattern_label, formed_path, formed_pattern, path_form, pattern_form, path_number, pattern_number};
 ghost use Rattle.matcher.specs.Reach.{begins_path};
 
 use crate::bytes::{PATH_LIMIT, PATTERN_LABEL_LIMIT, SLASH, STAR};
@@ -12,43 +12,31 @@ use crate::marks::LABEL_BYTES;
 use crate::runs::are_apart;
 use glob::split::{byte_at, is_deep, label_count, next_slash};
 
-// How a path or a pattern is formed. `TooLong`: over 200 bytes, or a pattern with over 32 `/`.
-#[derive(Clone, Copy)]
-pub enum Form {
-    Fine,
+// Why a path or a pattern is turned down. `TooLong`: over 200 bytes, or a pattern with over 32 `/`.
+#[derive(Clone, Copy, PartialEq, Eq, Debug)]
+pub enum FormError {
     TooLong,
     Malformed,
 }
 
-// Is it formed, its lengths included?
-pub fn is_fine(f: Form) -> bool
-    ensures { result ≡ is_fine f }
-{
-    match f {
-        Form::Fine => true,
-        Form::TooLong => false,
-        Form::Malformed => false,
-    }
-}
-
 // The number of document 01 for a path, and for a pattern, of this form: 0 where it is fine.
-pub fn path_number(f: Form) -> u64
-    ensures { result ≡ path_number f }
+pub fn path_number(form: Result<(), FormError>) -> u64
+    ensures { result ≡ path_number form }
 {
-    match f {
-        Form::Fine => 0,
-        Form::TooLong => 2,
-        Form::Malformed => 1,
+    match form {
+        Ok(()) => 0,
+        Err(FormError::TooLong) => 2,
+        Err(FormError::Malformed) => 1,
     }
 }
 
-pub fn pattern_number(f: Form) -> u64
-    ensures { result ≡ pattern_number f }
+pub fn pattern_number(form: Result<(), FormError>) -> u64
+    ensures { result ≡ pattern_number form }
 {
-    match f {
-        Form::Fine => 0,
-        Form::TooLong => 8,
-        Form::Malformed => 7,
+    match form {
+        Ok(()) => 0,
+        Err(FormError::TooLong) => 8,
+        Err(FormError::Malformed) => 7,
     }
 }
 
@@ -84,16 +72,16 @@ pub(crate) fn is_path(path: &[u8]) -> bool
 }
 
 // The form of a path: length first, then its labels.
-pub fn check_path(path: &[u8]) -> Form
+pub fn check_path(path: &[u8]) -> Result<(), FormError>
     ensures { result ≡ path_form path.now }
 {
     if PATH_LIMIT < path.len() {
-        return Form::TooLong;
+        return Err(FormError::TooLong);
     }
     if is_path(path) {
-        return Form::Fine;
+        return Ok(());
     }
-    Form::Malformed
+    Err(FormError::Malformed)
 }
 
 // Is a label of a pattern formed?
@@ -139,23 +127,23 @@ fn is_pattern(pattern: &[u8]) -> bool
 
 // The form of a pattern: too long, or of too many labels, comes before malformed. A label takes its `/` and at least one byte, so a formed pattern of few
 // bytes is not counted.
-pub fn check_pattern(pattern: &[u8]) -> Form
+pub fn check_pattern(pattern: &[u8]) -> Result<(), FormError>
     ensures { result ≡ pattern_form pattern.now }
 {
     if PATH_LIMIT < pattern.len() {
-        return Form::TooLong;
+        return Err(FormError::TooLong);
     }
     let formed = is_pattern(pattern);
     if formed {
         if pattern.len() / 2 <= PATTERN_LABEL_LIMIT {
-            return Form::Fine;
+            return Ok(());
         }
     }
     if PATTERN_LABEL_LIMIT < label_count(pattern) {
-        return Form::TooLong;
+        return Err(FormError::TooLong);
     }
     if formed {
-        return Form::Fine; // of many bytes
+        return Ok(()); // of many bytes
     }
-    Form::Malformed
+    Err(FormError::Malformed)
 }

@@ -5,7 +5,7 @@ ghost use Rattle.matcher.specs.Continued.{ended, FirstBytes};
 ghost use Rattle.matcher.specs.Reach.{is_first, reach_labels, reach_of, LiteralPrefix, Reached, RuledOut, OneLeads};
 
 use crate::bytes::END;
-use crate::form::{begins_path, check_pattern, is_fine, is_path};
+use crate::form::{begins_path, check_pattern, is_path};
 use glob::begin::begins_formed;
 use glob::fit::fits_formed;
 use glob_prefix::prefix::differs;
@@ -79,13 +79,13 @@ pub fn reach_from(pattern: &[u8], literal: usize, known: &[u8]) -> Answer
 pub fn reach(pattern: &[u8], known: &[u8]) -> Answer
     ensures { Reached pattern.now known.now result }
 {
-    if is_fine(check_pattern(pattern)) {
-        if is_first(known) {
-            return reach_labels(pattern, known);
-        }
-        return Answer::Mismatch; // no path begins so
+    if check_pattern(pattern).is_err() {
+        return Answer::Mismatch; // it is no pattern
     }
-    Answer::Mismatch // it is no pattern
+    if is_first(known) {
+        return reach_labels(pattern, known);
+    }
+    Answer::Mismatch // no path begins so
 }
 
 // Are the bytes s, behind p bytes of a path, a mismatch whatever those are? `literal` bytes of the pattern are such that every path that fits begins with
