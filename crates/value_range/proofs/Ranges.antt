@@ -104,6 +104,9 @@ module _ (q : Query) (k s : List ℕ) (from to : ℕ) (spans-s : Spans q k (leng
   unfolding value_reach
   with_span = rw (← spans-s.are s refl, length-append k s)
 
+  pub with_below : number s < from → Mismatch ≡ value_reach q (k ++ s)
+  with_below h = rw (with_span, lt-leb from (number s) h)
+
   pub with_above : to < number s → Mismatch ≡ value_reach q (k ++ s)
   with_above h = rw (with_span, and_false (leb from (number s)) (leb (number s) to) (lt-leb (number s) to h))
 
