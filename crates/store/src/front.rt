@@ -69,11 +69,19 @@ impl Front {
         })
     }
 
+    // How many entries level i has place for: M × 2^i.
+    pub fn level_size(self, i: usize) -> usize
+        requires { i ≤ l_limit }
+        ensures { (result ≡ self.m * 2 ^ i) × (result ≤ entries_limit) }
+    {
+        self.m << i
+    }
+
     // M × 2^L: what is held stays below.
     pub fn held_limit(self) -> usize
         ensures { (result ≡ self.m * 2 ^ self.l) × (result ≤ entries_limit) }
     {
-        self.m << self.l
+        self.level_size(self.l)
     }
 
     // The bytes that a store needs.

@@ -7,12 +7,12 @@ use crate::extent::trie_length;
 use crate::front::{ENTRY_ROOM, FRONT_ROOM, Front};
 use std::ops::Range;
 
-// How many bytes the store keeps for trie k.
+// How many bytes the store keeps for trie k. The small trie has as many as level 0.
 pub fn region_size(front: Front, k: usize) -> usize
     requires { k ≤ l_limit }
     ensures { (result ≡ region_size front.m k) × (result ≤ entry_room * entries_limit) }
 {
-    ENTRY_ROOM * front.m << k.saturating_sub(1)
+    ENTRY_ROOM * front.level_size(k.saturating_sub(1))
 }
 
 // Where they begin.
