@@ -11,7 +11,8 @@ use rows::sort::sort;
 pub trait Walk {
     ghost WIDTH: { ℕ };
 
-    const WIDTH: usize;
+    fn width(&self) -> usize
+        ensures { result ≡ WIDTH };
 
     // Whether these are the rows that it finds, in their sequence, and the second value; of none where the bytes are not those of good tries.
     ghost Rows: { Self → List (List ℕ) → ℕ → Type 0 };
@@ -46,7 +47,7 @@ fn fill<W: Walk>(walk: &W, answer: &mut [u8], room: usize) -> (usize, usize)
 {
     let (found, second) = walk.walk(answer, room);
     let rows = found.min(room);
-    sort(answer, 0, rows, W::WIDTH);
+    sort(answer, 0, rows, walk.width());
     (rows, second)
 }
 
@@ -54,7 +55,7 @@ fn fill<W: Walk>(walk: &W, answer: &mut [u8], room: usize) -> (usize, usize)
 pub fn list<W: Walk>(walk: &W, held: usize, answer: &mut [u8]) -> Result<(usize, usize), Refusal>
     ensures { Listed W.WIDTH (W.Rows walk.now) held answer.old answer.new (said rows_listed result) }
 {
-    let room = answer.len() / W::WIDTH;
+    let room = answer.len() / walk.width();
     if let Some(rows) = overfull(walk, held, room) {
         return Err(Refusal::NoRoom(rows));
     }
