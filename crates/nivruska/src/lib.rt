@@ -28,12 +28,7 @@ pub fn setup(store: &mut [u8], m: u64, l: u64, tau: u64) -> Result<(), Refusal>
 }
 
 // Adds an entry.
-pub fn add(
-    store: &mut [u8],
-    path: &[u8],
-    value: u64,
-    reference: &[u8],
-) -> Result<Added, Refusal>
+pub fn add(store: &mut [u8], path: &[u8], value: u64, reference: &[u8]) -> Result<Added, Refusal>
     ensures { Adds (entry path.now value reference.now) store.old store.new (said added result) }
 {
     store_add::add::add(store, path, value, reference)
