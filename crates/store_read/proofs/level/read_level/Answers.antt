@@ -1,4 +1,5 @@
 -- The front is read, and then the trie of the level, if there is one.
+use native.Mathlib.Omega.{arith}
 use Rattle.std.proofs.lemmas.Result.{err_from_is_err_and}
 use Rattle.store_read.proofs.Promising.{refuses_4, reads_beyond, reads_listed, reads_refused}
 use Rattle.store_read.proofs.level.read_level.Goals as goal
@@ -10,7 +11,7 @@ returns-in_err-store c =
     rw (p.1, p.2, o.0) (refuses_4 o.1)
 
 pub returns-then-level-store : goal.returns-then-level-store
-returns-then-level-store c = let o = c.in_ok-store.ensures in reads_beyond o.1 o.2 _ _ c.if-level-store.true
+returns-then-level-store c = let o = c.in_ok-store.ensures in reads_beyond o.1 o.2 _ _ (omega (arith, c.if-level-store.true))
 
 pub returns-in_err-records : goal.returns-in_err-records
 returns-in_err-records c =
