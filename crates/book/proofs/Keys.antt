@@ -17,7 +17,8 @@ use Rattle.matcher.specs.Bytes.{slash, star, path_limit, label_byte}
 use Rattle.matcher.specs.Form.{path_label, too_long, formed_path, path_form, is_fine}
 use Rattle.matcher.specs.Labels.{up_to_slash, labels_of}
 use Rattle.matcher.proofs.Forms.{fine_path}
-use Rattle.matcher.specs.declared.form.Form.TheVariants.{Fine, TooLong, Malformed}
+use Rattle.matcher.specs.declared.form.FormError.TheVariants.{TooLong, Malformed}
+use Rattle.std.specs.Prelude.{Ok, Err}
 use Rattle.rows.specs.Sizes.{value_size, reference_size}
 use Rattle.rows.specs.Entry.{Entry, fits_row}
 use Rattle.trie_theory.specs.Entries as Dimensions
@@ -96,7 +97,7 @@ not_long : (s : List ℕ) → is_fine (path_form s) ≡ true → length s ≤ pa
 unfolding path_form
 not_long s e = go (too_long s) refl e
   where
-    go : (b : Bool) → too_long s ≡ b → is_fine (cond b TooLong (cond (formed_path s) Fine Malformed)) ≡ true → length s ≤ path_limit
+    go : (b : Bool) → too_long s ≡ b → is_fine (cond b (Err TooLong) (cond (formed_path s) (Ok tt) (Err Malformed))) ≡ true → length s ≤ path_limit
     go true h f = not_both f refl
     go false h f = ltb-false path_limit (length s) h
 

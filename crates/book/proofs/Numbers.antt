@@ -8,8 +8,9 @@ use lib.ListN.{length}
 use lib.Dec.{eqb, ltb}
 use borrow.Author.Tests.{not-false, ltb-false, le-ltb}
 use Rattle.matcher.specs.Form.{path_form, pattern_form, path_number, pattern_number, is_fine}
-use Rattle.matcher.specs.declared.form.Form.{Form}
-use Rattle.matcher.specs.declared.form.Form.TheVariants.{Fine, TooLong, Malformed}
+use Rattle.matcher.specs.Form.{Form}
+use Rattle.matcher.specs.declared.form.FormError.TheVariants.{TooLong, Malformed}
+use Rattle.std.specs.Prelude.{Ok, Err}
 use Rattle.rows.specs.Sizes.{reference_size}
 use Rattle.rows.specs.Entry.{Entry}
 use Rattle.entries.specs.Query.{Query}
@@ -29,14 +30,14 @@ off n true e = absurd (let z : suc n ≡ 0 = e in omega arith)
 off n false e = refl
 
 path_fine : (f : Form) → path_number f ≡ 0 → is_fine f ≡ true
-path_fine Fine e = refl
-path_fine TooLong e = absurd (let z : ◌≡◌ {A = ℕ} 2 0 = e in omega arith)
-path_fine Malformed e = absurd (let z : ◌≡◌ {A = ℕ} 1 0 = e in omega arith)
+path_fine (Ok x) e = refl
+path_fine (Err TooLong) e = absurd (let z : ◌≡◌ {A = ℕ} 2 0 = e in omega arith)
+path_fine (Err Malformed) e = absurd (let z : ◌≡◌ {A = ℕ} 1 0 = e in omega arith)
 
 pattern_none : (f : Form) → is_fine f ≡ true → pattern_number f ≡ 0
-pattern_none Fine e = refl
-pattern_none TooLong e = absurd (let z : ◌≡◌ {A = ℕ} 0 1 = cc in omega arith)
-pattern_none Malformed e = absurd (let z : ◌≡◌ {A = ℕ} 0 1 = cc in omega arith)
+pattern_none (Ok x) e = refl
+pattern_none (Err TooLong) e = absurd (let z : ◌≡◌ {A = ℕ} 0 1 = cc in omega arith)
+pattern_none (Err Malformed) e = absurd (let z : ◌≡◌ {A = ℕ} 0 1 = cc in omega arith)
 
 -- what an addition that no reason refuses has
 pub record Acceptable (n : ℕ) (f : Front) (e : Entry) : Type 0 where
@@ -106,9 +107,9 @@ when_small n true h = h
 when_small n false h = omega arith
 
 pub path_small : (f : Form) → path_number f < 9
-path_small Fine = omega arith
-path_small TooLong = omega arith
-path_small Malformed = omega arith
+path_small (Ok x) = omega arith
+path_small (Err TooLong) = omega arith
+path_small (Err Malformed) = omega arith
 
 pub only_full : (n : ℕ) (f : Front) (e : Entry) → add_number n f e ≡ 9 → full f ≡ true
 unfolding add_number

@@ -2,9 +2,7 @@
 use Rattle.std.specs.Prelude.{ℕ, ◌+◌, ◌*◌, ◌<◌, ◌≤◌, ◌≡◌, true, List, [], map, length}
 use Rattle.buffer.specs.Sizes.{word_limit}
 use Rattle.buffer.specs.Lists.{all, All, pick}
-use Rattle.matcher.specs.Form.{pattern_form, is_fine}
 use Rattle.matcher.specs.Continued.{FirstBytes}
-use Rattle.matcher.specs.Reach.{LiteralPrefix}
 use Rattle.rows.specs.Sizes.{value_size, row_size, node_limit}
 use Rattle.trie_theory.specs.Forest.{Strings, Key, Forest, none, leaf, inner, join, under, keys}
 use Rattle.trie_theory.specs.Strings.{at}
@@ -102,9 +100,8 @@ pub record BodyFound (q : Query) (kind depth : ℕ) (k : Strings) (t : List ℕ)
   pub leaf : kind ≡ 0 → SuffixesFound q k t ks e
   pub inner : (kind ≡ 0 → ⊥) → TriesFound q (over kind) depth k t ks e
 
--- what the walk asks for: a formed pattern, of which `literal` bytes begin every path that fits, room for as many rows in the answer, counters that do not overflow, a key buffer
-pub record Ready (pattern t k s : List ℕ) (literal v p room rows nodes : ℕ) : Type 0 where
-  pub formed : (is_fine (pattern_form pattern) ≡ true) × LiteralPrefix pattern literal
+-- what the walk asks for: room for as many rows in the answer, counters that do not overflow, a key buffer
+pub record Ready (t k s : List ℕ) (v p room rows nodes : ℕ) : Type 0 where
   pub fits : room * row_size ≤ length s
   pub few_rows : rows + length t < word_limit
   pub few_nodes : nodes + length t < word_limit

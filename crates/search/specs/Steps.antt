@@ -48,7 +48,7 @@ pub record OneByte (q : Query) (above : Above) (k : Strings) : Type 0 where
 -- value; where there is a node, the answer of the dimension in which it does not branch (of a path, where the bytes known are the first of one); and
 -- `one`: if true, at most one branching byte leads on
 pub record InCommon (q : Query) (kind v p : ℕ) (k : List ℕ) (r : Common) : Type 0 where
-  pub bytes : kind ≡ 1 → v < value_size → Spans q (take v k) 1 r.from r.to
+  pub bytes : kind ≡ 1 → v < value_size → Spans q (take v k) 1 r.bytes.from r.bytes.to
   pub other : (kind ≡ root_kind → ⊥) → (kind ≡ 1 → FirstBytes (region k path_at p)) → r.other ≡ cond (eqb kind 1) (reach_of q.pattern (region k path_at p)) (value_reach q (take v k))
   pub single : r.one ≡ true → OneByte q (over kind) (known v p k)
 

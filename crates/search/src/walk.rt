@@ -2,13 +2,12 @@
 // counts. On bytes that are no trie of ours it returns all the same, with at most `depth` nested calls.
 ghost use Rattle.std.specs.Prelude.{◌≡◌, true, ◌+◌, ◌*◌, ◌<◌, ◌≤◌, length};
 ghost use Rattle.buffer.specs.Sizes.{word_limit};
-ghost use Rattle.matcher.specs.Form.{pattern_form, is_fine};
-ghost use Rattle.matcher.specs.Reach.{LiteralPrefix};
 ghost use Rattle.rows.specs.Sizes.{row_size};
 ghost use Rattle.gather.specs.KeySlots.{known};
-ghost use Rattle.entries.specs.Query.{asked};
+ghost use Rattle.search.specs.Asks.{asks};
 ghost use Rattle.search.specs.Searches.{Searched, SuffixesFound, BodyFound, Ready, TrieSearched};
 
+use crate::query::Query;
 use crate::step::{ROOT, ask_once, descend, take_key};
 use entries::SLOT_SIZE;
 use gather::key::put;
@@ -27,11 +26,8 @@ pub struct Found {
 
 // Finds the keys of suffixes, behind n rows. Returns how many rows there are then.
 fn suffixes(
+    q: &Query<'_>,
     body: &[u8],
-    pattern: &[u8],
-    literal: usize,
-    low: u64,
-    high: u64,
     key: &mut [u8],
     v: usize,
     p: usize,
@@ -39,23 +35,21 @@ fn suffixes(
     room: usize,
     rows: usize,
 ) -> usize
-    requires { Ready pattern.now body.now key.old answer.old literal v p room rows 0 }
+    requires { Ready body.now key.old answer.old v p room rows 0 }
     ensures upper_bound { result ≤ rows + length body.now }
-    ensures searched { Searched (SuffixesFound (asked pattern.now low high) (known v p key.old) body.now) v p room rows 0 answer.old key.old answer.new key.new result 0 }
+    ensures searched { Searched (SuffixesFound (asks q.now) (known v p key.old) body.now) v p room rows 0 answer.old key.old answer.new key.new result 0 }
 {
-    let rest = span_behind(low, high, &key[0..v], VALUE_SIZE - v);
+    let rest = span_behind(q.range, &key[..v], VALUE_SIZE - v);
     let mut t = body;
     let mut m = rows;
     loop {
         match read_suffix(t) {
             Tail::At { path, next } => {
-                if is_above(rest.to, v, t, SUFFIX_SIZE, path) {
+                if is_above(rest, v, &t[SUFFIX_SIZE..], path - SUFFIX_SIZE) {
                     return m; // values do not descend in a leaf
                 }
-                if take_key(
-                    key, v, p, t, path, next, pattern, literal, rest.from, rest.to,
-                ) {
-                    put(answer, 0, m, room, &key[0..ROW_SIZE]);
+                if take_key(q, key, v, p, t, path, next, rest) {
+                    put(answer, 0, m, room, &key[..ROW_SIZE]);
                     m += 1;
                 }
                 t = &t[next..];
@@ -73,38 +67,33 @@ fn suffixes(
 // The same of the body of a node of a kind: of its suffixes, if it is a leaf, else of its children, at most `depth` nodes one below the other.
 // Tries that stand below no node are a body of the kind ROOT.
 fn walk(
+    q: &Query<'_>,
     body: &[u8],
     kind: usize,
-    pattern: &[u8],
-    literal: usize,
-    low: u64,
-    high: u64,
     key: &mut [u8],
     v: usize,
     p: usize,
     depth: usize,
     answer: &mut [u8],
     room: usize,
-    rows: usize,
-    nodes: usize,
+    found: Found,
 ) -> Found
-    requires { Ready pattern.now body.now key.old answer.old literal v p room rows nodes }
-    ensures rows_bound { (result.rows ≤ rows + length body.now) × (result.nodes ≤ nodes + length body.now) }
-    ensures searched { Searched (BodyFound (asked pattern.now low high) kind depth (known v p key.old) body.now) v p room rows nodes answer.old key.old answer.new key.new result.rows result.nodes }
+    requires { Ready body.now key.old answer.old v p room found.rows found.nodes }
+    ensures rows_bound { (result.rows ≤ found.rows + length body.now) × (result.nodes ≤ found.nodes + length body.now) }
+    ensures searched { Searched (BodyFound (asks q.now) kind depth (known v p key.old) body.now) v p room found.rows found.nodes answer.old key.old answer.new key.new result.rows result.nodes }
 {
     if kind == 0 {
-        let m = suffixes(
-            body, pattern, literal, low, high, key, v, p, answer, room, rows,
-        );
-        return Found { rows: m, nodes };
+        return Found {
+            rows: suffixes(q, body, key, v, p, answer, room, found.rows),
+            nodes: found.nodes,
+        };
     }
     if depth == 0 {
-        return Found { rows, nodes };
+        return found;
     }
-    let common = ask_once(kind, pattern, literal, low, high, key, v, p);
+    let common = ask_once(kind, q, key, v, p);
     let mut t = body;
-    let mut m = rows;
-    let mut n = nodes;
+    let mut so_far = found;
     loop {
         match read_head(t) {
             Head::Node {
@@ -113,62 +102,51 @@ fn walk(
                 body: start,
                 next,
             } => {
-                if descend(
-                    key, v, p, t, path, start, kind, pattern, literal, low, high, common,
-                ) {
-                    let found = walk(
+                if descend(q, key, v, p, t, path, start, kind, common) {
+                    so_far = walk(
+                        q,
                         &t[start..next],
                         own,
-                        pattern,
-                        literal,
-                        low,
-                        high,
                         key,
                         v + (path - HEAD_SIZE),
                         p + (start - path),
                         depth - 1,
                         answer,
                         room,
-                        m,
-                        n + 1,
+                        Found {
+                            rows: so_far.rows,
+                            nodes: so_far.nodes + 1,
+                        },
                     );
                     if common.one {
-                        return found; // at most one byte leads on, and no sibling has it
+                        return so_far; // at most one byte leads on, and no sibling has it
                     }
-                    m = found.rows;
-                    n = found.nodes;
                 }
                 t = &t[next..];
             }
             Head::End => {
-                return Found { rows: m, nodes: n };
+                return so_far;
             }
             Head::Bad => {
-                return Found { rows: m, nodes: n };
+                return so_far;
             }
         }
     }
 }
 
-// Searches one trie, behind the rows and nodes of others. The pattern is formed, and every path that fits it begins with its first `literal` bytes.
+// Searches one trie, behind the rows and nodes found in others.
 pub fn search_trie(
+    q: &Query<'_>,
     tries: &[u8],
-    pattern: &[u8],
-    literal: usize,
-    low: u64,
-    high: u64,
     answer: &mut [u8],
     room: usize,
-    rows: usize,
-    nodes: usize,
+    found: Found,
 ) -> Found
-    requires pattern_value { (is_fine (pattern_form pattern.now) ≡ true) × LiteralPrefix pattern.now literal }
-    requires row_size_in_bounds { (room * row_size ≤ length answer.old) × (rows + length tries.now < word_limit) × (nodes + length tries.now < word_limit) }
-    ensures { TrieSearched (asked pattern.now low high) tries.now room rows nodes answer.old answer.new result.rows result.nodes }
+    requires { (room * row_size ≤ length answer.old) × (found.rows + length tries.now < word_limit) × (found.nodes + length tries.now < word_limit) }
+    ensures { TrieSearched (asks q.now) tries.now room found.rows found.nodes answer.old answer.new result.rows result.nodes }
 {
-    let mut key = [0u8; SLOT_SIZE];
+    let mut key = [0; SLOT_SIZE];
     walk(
-        tries, ROOT, pattern, literal, low, high, &mut key, 0, 0, NODE_LIMIT, answer, room, rows,
-        nodes,
+        q, tries, ROOT, &mut key, 0, 0, NODE_LIMIT, answer, room, found,
     )
 }

@@ -4,4 +4,4 @@ pub mod Numbers
 pub mod Opening
 pub mod Ends
 pub mod Places
-pub mod Listing
+pub mod ListedRows

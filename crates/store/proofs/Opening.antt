@@ -10,8 +10,8 @@ use borrow.Author.Tests.{lt-ltb, le-ltb, ltb-false, not-false}
 use native.Mathlib.Nat.{mul-le-mul}
 use lib.Pow.{pow_pos}
 use Rattle.book.proofs.Front.{Within, within, too_short}
+use Rattle.std.specs.Prelude.{Ok, Err}
 use Rattle.store.specs.Opening.{Reads, OpenedNumber}
-use Rattle.store.specs.declared.front.Opened.TheVariants.{Store, Missing}
 use Rattle.store.specs.declared.front.Front as Code
 use Rattle.book.specs.Front.{Front, front_size, front_of, m_limit, l_limit, in_limits, need, capacity, no_store}
 use Rattle.book.specs.Replies.{read_number}
@@ -57,15 +57,15 @@ module _ (s : List ℕ) (g : Code.Front) (r : Reads s g) where
   pub no_length : (n : ℕ) → n ≡ need g.m g.l → length s < n → no_store (length s) f ≡ true
   no_length n e h = too_short (length s) f (rw (← r.m_is, ← r.l_is, ← e) h)
 
-  pub no_held : (p : ℕ) → p ≡ 2 ^ g.l → in_limits g.m g.l g.tau ≡ true → g.m * p ≤ g.held → no_store (length s) f ≡ true
-  no_held p e w h =
+  pub no_held : in_limits g.m g.l g.tau ≡ true → g.m * 2 ^ g.l ≤ g.held → no_store (length s) f ≡ true
+  no_held w h =
       let some : 0 < g.m * 2 ^ g.l = mul-le-mul (within _ _ _ w).m_low (pow_pos g.l) in
-      bad_held (length s) f (rw (r.m_is, r.l_is) at some) (rw (r.m_is, r.l_is, r.held_is) at (rw e at h))
+      bad_held (length s) f (rw (r.m_is, r.l_is) at some) (rw (r.m_is, r.l_is, r.held_is) at h)
 
-  pub opened : (n p : ℕ) → front_size ≤ length s → in_limits g.m g.l g.tau ≡ true → n ≡ need g.m g.l → n ≤ length s → p ≡ 2 ^ g.l → g.held < g.m * p
+  pub opened : (n : ℕ) → front_size ≤ length s → in_limits g.m g.l g.tau ≡ true → n ≡ need g.m g.l → n ≤ length s → g.held < g.m * 2 ^ g.l
       → no_store (length s) f ≡ false
-  opened n p a w e k q h =
-      a_store (length s) f a (limits true w) (rw (← r.m_is, ← r.l_is, ← e) k) (rw (r.m_is, r.l_is, r.held_is) at (rw q at h))
+  opened n a w e k h =
+      a_store (length s) f a (limits true w) (rw (← r.m_is, ← r.l_is, ← e) k) (rw (r.m_is, r.l_is, r.held_is) at h)
 
 -- WHAT A STORE IS THAT IS NOT 4
 pub record Stored (n : ℕ) (f : Front) : Type 0 where
@@ -95,5 +95,5 @@ opened_within s g r h = let w = stored (length s) (front_of s) h in rw (r.m_is, 
 
 pub opened_number_lem : OpenedNumber
 unfolding read_number
-opened_number_lem s (Store f) o = rw o.1
-opened_number_lem s Missing o = rw o
+opened_number_lem s (Ok x) o = rw o.2
+opened_number_lem s (Err e) o = rw (o.0, o.1)

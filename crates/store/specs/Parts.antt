@@ -33,3 +33,10 @@ pub record PartOf (s : List ℕ) (m l k from to : ℕ) : Type 0 where
   pub inside : to ≤ region_at m k + region_size m k
   pub within : to ≤ need m l
   pub holds : (f : Front) (t : Tries) → f.M ≡ m → f.L ≡ l → GoodTries f t → Holds s f t → part from to s ≡ encode (numbered t k)
+
+-- .. and t is that part
+pub record TrieIs (s : List ℕ) (m l k : ℕ) (t : List ℕ) : Type 0 where
+  pub from : ℕ
+  pub to : ℕ
+  pub part_of : PartOf s m l k from to
+  pub is : t ≡ part from to s

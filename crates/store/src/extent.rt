@@ -6,7 +6,6 @@ ghost use Rattle.trie_theory.specs.Sound.{Sound};
 ghost use Rattle.trie_theory.specs.Encode.{Regular, encode};
 
 use buffer::numbers::get32;
-use trie_read::head::{wide, wide32};
 use trie_read::sizes::HEAD_SIZE;
 
 // The end of the root, or 0 where it has none within the region.
@@ -17,13 +16,10 @@ pub fn trie_length(t: &[u8]) -> usize
     if t.len() < HEAD_SIZE {
         return 0;
     }
-    let body = wide32(get32(t, 3));
+    let body = get32(t, 3) as usize;
     if body == 0 {
         return 0;
     }
-    let n = HEAD_SIZE + wide(t[1]) + wide(t[2]) + body;
-    if n <= t.len() {
-        return n;
-    }
-    0
+    let end = HEAD_SIZE + t[1] as usize + t[2] as usize + body;
+    if end <= t.len() { end } else { 0 }
 }

@@ -1,10 +1,8 @@
 // The numbers at the beginning of a store, and what they say of it.
-ghost use Rattle.std.specs.Prelude.{◌≡◌, ◌+◌, ◌*◌, ◌^◌, ◌≤◌, ◌<◌, length};
-ghost use Rattle.book.specs.Front.{in_limits, need, m_limit, l_limit, front_size};
-ghost use Rattle.store.specs.Opening.{Reads, OpenedAs};
+ghost use Rattle.std.specs.Prelude.{◌≡◌, ◌*◌, ◌^◌, ◌≤◌, ◌&&◌, leb};
+ghost use Rattle.book.specs.Front.{in_limits, need, m_limit, l_limit, entries_limit};
 
 use buffer::numbers::get32;
-use trie_read::head::wide32;
 
 // Document 01's limits of M, L and τ.
 pub const M_LIMIT: u64 = 4096;
@@ -24,47 +22,16 @@ pub const FRONT_ROOM: usize = 4096;
 
 pub const ENTRY_ROOM: usize = 1024;
 
+fn is_within(x: u64, limit: u64) -> bool
+    ensures { result ≡ (leb 1 x && leb x limit) }
+{
+    (1..=limit).contains(&x)
+}
+
 pub(crate) fn in_limits(m: u64, l: u64, tau: u64) -> bool
     ensures { result ≡ in_limits m l tau }
 {
-    if m < 1 {
-        return false;
-    }
-    if M_LIMIT < m {
-        return false;
-    }
-    if l < 1 {
-        return false;
-    }
-    if L_LIMIT < l {
-        return false;
-    }
-    if tau < 1 {
-        return false;
-    }
-    tau <= TAU_LIMIT
-}
-
-// 2 to the power of l.
-pub fn power(l: usize) -> usize
-    requires { l ≤ l_limit }
-    ensures { (result ≡ 2 ^ l) × (result ≤ 2 ^ l_limit) }
-{
-    let mut p: usize = 1;
-    let mut i: usize = 0;
-    while i < l {
-        p *= 2;
-        i += 1;
-    }
-    p
-}
-
-// The bytes that a store needs.
-pub fn needed(m: usize, l: usize) -> usize
-    requires { (m ≤ m_limit) × (l ≤ l_limit) }
-    ensures { result ≡ need m l }
-{
-    ENTRY_ROOM * m * power(l) + FRONT_ROOM
+    is_within(m, M_LIMIT) && is_within(l, L_LIMIT) && is_within(tau, TAU_LIMIT)
 }
 
 // M, L, τ and the held number.
@@ -74,44 +41,53 @@ pub struct Front {
     pub l: usize,
     pub tau: usize,
     pub held: usize,
+    pub ghost m_high: { m ≤ m_limit },
+    pub ghost l_high: { l ≤ l_limit },
 }
 
-// `Missing`: no store stands in the memory lent, number 4.
-#[derive(Clone, Copy)]
-pub enum Opened {
-    Store(Front),
-    Missing,
-}
+impl Front {
+    ghost use Rattle.store.specs.Opening.{FrontRead};
 
-// Reads the four numbers.
-fn read_front(store: &[u8]) -> Front
-    requires { front_size ≤ length store.now }
-    ensures { Reads store.now result }
-{
-    Front {
-        m: wide32(get32(store, 0)),
-        l: wide32(get32(store, 4)),
-        tau: wide32(get32(store, 8)),
-        held: wide32(get32(store, HELD_AT)),
-    }
-}
-
-// Reads the front and tests it: its numbers, and whether all the bytes needed are lent.
-pub fn open(store: &[u8]) -> Opened
-    ensures { OpenedAs store.now result }
-{
-    if store.len() < FRONT_SIZE {
-        return Opened::Missing;
-    }
-    let f = read_front(store);
-    let m = f.m;
-    let l = f.l;
-    if in_limits(m as u64, l as u64, f.tau as u64) {
-        if needed(m, l) <= store.len() {
-            if f.held < m * power(l) {
-                return Opened::Store(f);
-            }
+    // The four numbers at the beginning of a store, where there are any, and M, L and τ keep to their limits.
+    pub(crate) fn read(store: &[u8]) -> Option<Front>
+        ensures { FrontRead store.now result }
+    {
+        if store.len() < FRONT_SIZE {
+            return None;
         }
+        let m = get32(store, 0);
+        let l = get32(store, 4);
+        let tau = get32(store, 8);
+        if !in_limits(u64::from(m), u64::from(l), u64::from(tau)) {
+            return None;
+        }
+        Some(Front {
+            m: m as usize,
+            l: l as usize,
+            tau: tau as usize,
+            held: get32(store, HELD_AT) as usize,
+        })
     }
-    Opened::Missing
+
+    // How many entries level i has place for: M × 2^i.
+    pub fn level_size(self, i: usize) -> usize
+        requires { i ≤ l_limit }
+        ensures { (result ≡ self.m * 2 ^ i) × (result ≤ entries_limit) }
+    {
+        self.m << i
+    }
+
+    // M × 2^L: what is held stays below.
+    pub fn held_limit(self) -> usize
+        ensures { (result ≡ self.m * 2 ^ self.l) × (result ≤ entries_limit) }
+    {
+        self.level_size(self.l)
+    }
+
+    // The bytes that a store needs.
+    pub fn needed(self) -> usize
+        ensures { result ≡ need self.m self.l }
+    {
+        ENTRY_ROOM * self.held_limit() + FRONT_ROOM
+    }
 }

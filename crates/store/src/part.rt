@@ -4,44 +4,34 @@ ghost use Rattle.book.specs.Front.{need, m_limit, l_limit, entries_limit, need_l
 ghost use Rattle.store.specs.Parts.{region_at, region_size, PartOf};
 
 use crate::extent::trie_length;
-use crate::front::{ENTRY_ROOM, FRONT_ROOM, power};
+use crate::front::{ENTRY_ROOM, FRONT_ROOM, Front};
+use std::ops::Range;
 
-// The bytes from..to of a store.
-#[derive(Clone, Copy)]
-pub struct Part {
-    pub from: usize,
-    pub to: usize,
-}
-
-// How many bytes the store keeps for trie k.
-pub fn region_size(m: usize, k: usize) -> usize
-    requires { (m ≤ m_limit) × (k ≤ l_limit) }
-    ensures { (result ≡ region_size m k) × (result ≤ entry_room * entries_limit) }
+// How many bytes the store keeps for trie k. The small trie has as many as level 0.
+pub fn region_size(front: Front, k: usize) -> usize
+    requires { k ≤ l_limit }
+    ensures { (result ≡ region_size front.m k) × (result ≤ entry_room * entries_limit) }
 {
-    if k == 0 {
-        return ENTRY_ROOM * m;
-    }
-    ENTRY_ROOM * m * power(k - 1)
+    ENTRY_ROOM * front.level_size(k.saturating_sub(1))
 }
 
 // Where they begin.
-pub fn region_at(m: usize, k: usize) -> usize
-    requires { (m ≤ m_limit) × (k ≤ l_limit) }
-    ensures { (result ≡ region_at m k) × (result ≤ need_limit) }
+pub fn region_at(front: Front, k: usize) -> usize
+    requires { k ≤ l_limit }
+    ensures { (result ≡ region_at front.m k) × (result ≤ need_limit) }
 {
     if k == 0 {
         return FRONT_ROOM;
     }
-    FRONT_ROOM + region_size(m, k)
+    FRONT_ROOM + region_size(front, k)
 }
 
 // The part that trie k takes of its region.
-pub fn trie_part(store: &[u8], m: usize, l: usize, k: usize) -> Part
-    requires { (m ≤ m_limit) × (l ≤ l_limit) × (k ≤ l) × (need m l ≤ length store.now) }
-    ensures { PartOf store.now m l k result.from result.to }
+pub fn trie_range(store: &[u8], front: Front, k: usize) -> Range<usize>
+    requires { (k ≤ front.l) × (need front.m front.l ≤ length store.now) }
+    ensures { PartOf store.now front.m front.l k result.start result.end }
 {
-    let from = region_at(m, k);
-    let end = from + region_size(m, k);
-    let n = trie_length(&store[from..end]);
-    Part { from, to: from + n }
+    let from = region_at(front, k);
+    let end = from + region_size(front, k);
+    from..from + trie_length(&store[from..end])
 }

@@ -1,5 +1,5 @@
 -- A trie in its region, and the same trie with a key added. Assumes nothing.
-use mathlib.Core.Path.{◌≡◌, refl, sym, ap, ap₂, ◌∙◌}
+use mathlib.Core.Path.{◌≡◌, refl, sym, ap, ◌∙◌}
 use Prim.Native.Nat.{ℕ, ◌+◌, ◌*◌, ◌-◌, ◌≤◌, ◌<◌}
 use mathlib.Core.List.{List, [], ◌∷◌, ◌++◌, append-nil, append_assoc}
 use native.Mathlib.Omega.{arith}
@@ -39,17 +39,16 @@ unfolding padded
 padded_part n a = take_at a (replicate (n - length a) 0) (length a) refl
 
 -- a path laid over zeros, with one of them behind it
-pub ended_is : (n : ℕ) (path s : List ℕ) → length path < n → s ≡ splice (replicate n 0) 0 path → take (length path + 1 - 0) s ≡ path ++ (0 ∷ [])
+pub ended_is : (n : ℕ) (path s : List ℕ) → length path < n → s ≡ splice (replicate n 0) 0 path → take (length path + 1) s ≡ path ++ (0 ∷ [])
 unfolding padded
 ended_is n path s h e =
     let k : n - length path ≡ 1 + (n - length path - 1) = omega arith in
     let z : List ℕ = replicate (n - length path - 1) 0 in
-    let q : length path + 1 - 0 ≡ length path + 1 = omega arith in
     let n-is : n ≡ n - 0 = omega arith in
     let is : s ≡ (path ++ (0 ∷ [])) ++ z =
     e ∙ ap (λ (i : ℕ). splice (replicate i 0) 0 path) n-is ∙ padded_over n [] path (omega arith) (omega arith) ∙ ap (λ (i : ℕ). path ++ replicate i 0) k
     ∙ ap (λ (l : List ℕ). path ++ l) (sym (replicate-append-replicate 1 (n - length path - 1) 0)) ∙ sym (append_assoc path (0 ∷ []) z) in
-    ap₂ take q is ∙ take_at (path ++ (0 ∷ [])) z (length path + 1) (length-append path (0 ∷ []))
+    ap (take (length path + 1)) is ∙ take_at (path ++ (0 ∷ [])) z (length path + 1) (length-append path (0 ∷ []))
 
 module _ (m used : ℕ) (x : Key) (store : List ℕ) (fits : front_room + entry_room * m ≤ length store) where
   abbrev old : List ℕ

@@ -12,9 +12,8 @@ use Rattle.trie_theory.specs.Forest.{Key, Forest}
 use Rattle.trie_theory.specs.Dimensions.{root}
 use Rattle.trie_theory.specs.Lookup.{member}
 use Rattle.trie_theory.specs.Encode.{Regular, encode}
-use Rattle.trie_read.specs.Shape.{part}
 use Rattle.book.specs.Tries.{Tries}
-use Rattle.store.specs.Parts.{numbered, up_to, PartOf}
+use Rattle.store.specs.Parts.{numbered, up_to, TrieIs}
 use Rattle.store.proofs.Places.{up_to_next, good_numbered, good_regular}
 use Rattle.store_add.specs.Placed.{InTrie, InFirst, LookedUp}
 
@@ -57,8 +56,8 @@ module _ (m l : ℕ) (x : Key) (store : List ℕ) where
   pub looked_all : (k : ℕ) → k ≡ l + 1 → InFirst m l k x store false → LookedUp m l x store false
   looked_all k z a f t em el g h = a f t em el g h ∙ ap (λ (i : ℕ). any (λ g. member root g x) (up_to i t)) (z ∙ add-one l)
 
-  -- trie k, from its part
-  pub in_part : (k from to : ℕ) (r : Bool) → k ≤ l → PartOf store m l k from to
-      → ((f : Forest) → Regular 2 f → part from to store ≡ encode f → r ≡ member root f x) → InTrie m l k x store r
-  in_part k from to r low p c f t em el g h =
-      c (numbered t k) (good_regular _ _ (good_numbered f t g k (subst (λ (i : ℕ). k ≤ i) (sym el) low))) (p.holds f t em el g h)
+  -- trie k, from its bytes
+  pub in_part : (k : ℕ) (bytes : List ℕ) (r : Bool) → k ≤ l → TrieIs store m l k bytes
+      → ((f : Forest) → Regular 2 f → bytes ≡ encode f → r ≡ member root f x) → InTrie m l k x store r
+  in_part k bytes r low p c f t em el g h =
+      c (numbered t k) (good_regular _ _ (good_numbered f t g k (subst (λ (i : ℕ). k ≤ i) (sym el) low))) (p.is ∙ p.part_of.holds f t em el g h)

@@ -12,7 +12,7 @@ use Rattle.buffer.specs.Splice.{splice}
 use Rattle.buffer.proofs.Digits.{length_bytes_of}
 use Rattle.buffer.proofs.Lists.{all_head, all_right, all_tested}
 use Rattle.buffer.proofs.Splice.{length_splice, take_before, drop_after}
-use Rattle.rows.specs.Entry.{Entry, entry}
+use Rattle.rows.specs.Entry.{Entry}
 use Rattle.matcher.specs.Bytes.{path_limit}
 use Rattle.rows.specs.Sizes.{value_size}
 use Rattle.trie_theory.specs.Forest.{Key}
@@ -37,6 +37,8 @@ use Rattle.store.proofs.Places.{good_regular}
 use Rattle.store_add.specs.Small.{SmallGrown}
 use Rattle.store_overflow.specs.Overflow.{Overflowed}
 use Rattle.store_add.specs.Placed.{Placed}
+use Rattle.store_add.specs.Spelled.{spelled, Spells}
+use Rattle.store_add.specs.declared.key.Key as Code
 use Rattle.store_add.proofs.Held.{small_inside, small_room, small_image}
 
 -- the bytes that the addition of an entry takes at most
@@ -77,18 +79,17 @@ module _ (m l tau n used : ℕ) (e : Entry) (store after : List ℕ) (enough : n
           ap (λ (x : List ℕ). splice x held_at (bytes_of 4 (held b + 1))) g.is ∙ small_image b e s s' below store h g.own own (g.size ∙ ap (λ (x : ℕ). entry_room * x) p)
 
 -- the key of an entry, of its bytes
-pub key_is : (path reference : List ℕ) (value : ℕ) (bytes ended : List ℕ) → bytes ≡ bytes_of value_size value → ended ≡ path ++ (0 ∷ [])
-    → key_of bytes ended reference ≡ entry_key (entry path value reference)
+pub spelled_is : {e : Entry} {k : Code.Key} → Spells e k → spelled k ≡ entry_key e
 unfolding entry_key
-key_is path reference value bytes ended p q = λ i. key_of (p i) (q i) reference
+spelled_is h = λ i. key_of (h.value i) (h.path i) (h.reference i)
 
 -- .. and of the part that the small trie has
-pub placed_first : (m l tau n from to : ℕ) (path reference : List ℕ) (value : ℕ) (bytes ended store after : List ℕ) → need m l ≤ length store
-    → length path ≤ path_limit → bytes ≡ bytes_of value_size value → ended ≡ path ++ (0 ∷ []) → PartOf store m l 0 from to → n % m + 1 < m
-    → SmallGrown m (to - from) (key_of bytes ended reference) store after → Placed m l tau n (entry path value reference) store after
-placed_first m l tau n from to path reference value bytes ended store after enough short p q part low g =
-    placed_small m l tau n (to - from) (entry path value reference) store after enough short
-    (subst (λ (x : Key). SmallGrown m (to - from) x store after) (key_is path reference value bytes ended p q) g) low
+pub placed_first : (m l tau n from to : ℕ) (e : Entry) (k : Code.Key) (store after : List ℕ) → need m l ≤ length store
+    → length e.path ≤ path_limit → Spells e k → PartOf store m l 0 from to → n % m + 1 < m
+    → SmallGrown m (to - from) (spelled k) store after → Placed m l tau n e store after
+placed_first m l tau n from to e k store after enough short h part low g =
+    placed_small m l tau n (to - from) e store after enough short
+    (subst (λ (x : Key). SmallGrown m (to - from) x store after) (spelled_is h) g) low
     (λ b s h em el.
     (let e = part.holds (front b) (tries b) (sym em) (sym el) (tries_good b s) h in
     sym (length_part store from to (omega (arith, part.within, enough))) ∙ ap length e))

@@ -10,17 +10,17 @@ use Rattle.buffer.specs.Lists.{any}
 use Rattle.buffer.specs.Numbers.{bytes_of}
 use Rattle.buffer.specs.Splice.{splice}
 use Rattle.rows.specs.Sizes.{value_size}
-use Rattle.rows.specs.Entry.{Entry, entry}
+use Rattle.trie_read.specs.Shape.{key_of}
+use Rattle.rows.specs.Entry.{Entry}
 use Rattle.trie_theory.specs.Forest.{Key}
 use Rattle.trie_theory.specs.Dimensions.{root}
 use Rattle.trie_theory.specs.Lookup.{member}
 use Rattle.entries.specs.Keys.{entry_key}
-use Rattle.trie_read.specs.Shape.{key_of}
 use Rattle.book.specs.Front.{Front, front_size, held_at, front_room, front_of, holding, need}
 use Rattle.book.specs.Book.{Book, held, front}
 use Rattle.book.specs.Tries.{tries, every}
 use Rattle.book.specs.FromTries.{has_in}
-use Rattle.book.specs.Replies.{reply, add_number}
+use Rattle.book.specs.Replies.{Reply, reply, add_number}
 use Rattle.book.specs.Calls.{add, typed}
 use Rattle.book.specs.Step.{step, admit}
 use Rattle.book.specs.Image.{image, HoldsBook}
@@ -36,7 +36,9 @@ use Rattle.book.proofs.Writes.{as_held}
 use Rattle.store.proofs.Fresh.{need_least}
 use Rattle.store_add.specs.Placed.{LookedUp, Placed}
 use Rattle.store_add.proofs.Held.{held_back, held_beyond, held_size}
-use Rattle.store_add.proofs.Placing.{key_is}
+use Rattle.store.specs.Said.{refused}
+use Rattle.store.specs.declared.refusal.Refusal.{Refusal}
+use Rattle.store_add.proofs.Checks.{refused_some}
 
 -- a store that holds a book begins with its image
 pub image_held : {store : List ℕ} {b : Book} → HoldsBook store b → store ≡ splice store 0 (image b)
@@ -44,9 +46,10 @@ unfolding image
 image_held {store} {b} h = as_held h.holds (image_fits b h.sound)
 
 -- looked up by the bytes of the entry's key
-pub looked_up_entry : (m l : ℕ) (path reference : List ℕ) (value : ℕ) (bytes ended store : List ℕ) (w : Bool) → bytes ≡ bytes_of value_size value
-    → ended ≡ path ++ (0 ∷ []) → LookedUp m l (key_of bytes ended reference) store w → LookedUp m l (entry_key (entry path value reference)) store w
-looked_up_entry m l path reference value bytes ended store w p q h = subst (λ (x : Key). LookedUp m l x store w) (key_is path reference value bytes ended p q) h
+pub looked_up_entry : (m l : ℕ) (e : Entry) (bytes ended store : List ℕ) (w : Bool) → bytes ≡ bytes_of value_size e.value → ended ≡ e.path ++ (0 ∷ [])
+    → LookedUp m l (key_of bytes ended e.reference) store w → LookedUp m l (entry_key e) store w
+unfolding entry_key
+looked_up_entry m l e bytes ended store w p q h = subst (λ (x : Key). LookedUp m l x store w) (λ i. key_of (p i) (q i) e.reference) h
 
 module _ (store : List ℕ) (e : Entry) where
   abbrev number : ℕ
@@ -65,9 +68,12 @@ module _ (store : List ℕ) (e : Entry) where
         ours = λ b h. rw (sym (same_number b h) ∙ z) (refl, image_held h);
       }
 
-  pub refuses_with : (n : ℕ) → n ≡ number → (n ≡ 0 → ⊥) → Adds e store store (reply n 0 0)
-  refuses_with zero q h = absurd (h refl)
-  refuses_with (suc n) q h = refuses n (sym q)
+  pub refuses_with : (r : Refusal) → refused r ≡ reply number 0 0 → Adds e store store (refused r)
+  refuses_with r z = go number z refl
+    where
+      go : (n : ℕ) → refused r ≡ reply n 0 0 → number ≡ n → Adds e store store (refused r)
+      go zero q h = absurd (omega (arith, refused_some r, ap (λ (x : Reply). x.number) q))
+      go (suc n) q h = subst (Adds e store store) (sym q) (refuses n h)
 
   module _ (z : number ≡ 0) where
     none_refuses : {A : Type 0} (n : ℕ) → number ≡ suc n → A

@@ -1,26 +1,50 @@
 // The checks of an addition behind number 4.
-ghost use Rattle.std.specs.Prelude.{◌*◌, ◌^◌, ◌≤◌, ◌<◌};
-ghost use Rattle.book.specs.Front.{m_limit, l_limit};
+ghost use Rattle.std.specs.Prelude.{◌≡◌, ◌*◌, ◌^◌, ◌<◌, IfOk};
+ghost use Rattle.matcher.specs.Form.{path_form, path_number};
+ghost use Rattle.rows.specs.Entry.{entry};
+ghost use Rattle.book.specs.Replies.{reply};
+ghost use Rattle.store.specs.Said.{said, done};
+ghost use Rattle.store_overflow.specs.Entering.{entry_of};
 ghost use Rattle.store_add.specs.Checked.{Checked};
 
 use buffer::sizes::REFERENCE_SIZE;
-use matcher::form::{check_path, path_number};
-use store::front::power;
+use matcher::form::{FormError, check_path};
+use store::front::Front;
+use store::refusal::Refusal;
+use store_overflow::entry::Entry;
 
-// The number of the first check that refuses, 0 where none does.
-pub(crate) fn refusal(m: usize, l: usize, held: usize, path: &[u8], reference: &[u8]) -> u32
-    requires { (m ≤ m_limit) × (l ≤ l_limit) × (held < m * 2 ^ l) }
-    ensures { Checked m l held path.now reference.now result }
+// Is the path formed?
+fn check_form(path: &[u8]) -> Result<(), Refusal>
+    ensures { said done result ≡ reply (path_number (path_form path.now)) 0 0 }
 {
-    let number = path_number(check_path(path));
-    if number > 0 {
-        return number as u32;
+    match check_path(path) {
+        Ok(()) => Ok(()),
+        Err(FormError::TooLong) => Err(Refusal::PathTooLong),
+        Err(FormError::Malformed) => Err(Refusal::PathMalformed),
     }
+}
+
+// The entry, or the first check that refuses it.
+pub(crate) fn check<'a>(
+    front: Front,
+    path: &'a [u8],
+    value: u64,
+    reference: &'a [u8],
+) -> Result<Entry<'a>, Refusal>
+    requires { front.held < front.m * 2 ^ front.l }
+    ensures checked { Checked front.m front.l front.held (entry path.now value reference.now) (said done result) }
+    ensures same { IfOk result (λ e. entry_of e ≡ entry path.now value reference.now) }
+{
+    check_form(path)?;
     if reference.len() != REFERENCE_SIZE {
-        return 3;
+        return Err(Refusal::ReferenceSize);
     }
-    if held + 1 == m * power(l) {
-        return 9;
+    if front.held + 1 == front.held_limit() {
+        return Err(Refusal::Full);
     }
-    0
+    Ok(Entry {
+        path,
+        value,
+        reference,
+    })
 }

@@ -3,6 +3,7 @@
 
 pub mod add;
 mod check;
+mod key;
 mod lookup;
 mod place;
 mod small;

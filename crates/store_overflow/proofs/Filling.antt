@@ -52,16 +52,15 @@ pub record Sized (m l j x : ℕ) : Type 0 where
   pub most : x ≤ 1048576
   pub fits : front_room + entry_room * x + entry_room * x ≤ need m l
 
-pub sized : (m l j p : ℕ) → 1 ≤ m → m ≤ 4096 → j < l → p ≡ 2 ^ j → p ≤ 256 → Sized m l j (m * p)
-sized m l j p low high h e few =
-    let is : m * p ≡ m * 2 ^ j = ap (λ (k : ℕ). m * k) e in
-    let r : entry_room * (m * p) ≡ entry_room * m * 2 ^ j = ap (λ (k : ℕ). entry_room * k) is ∙ sym (mul_assoc entry_room m (2 ^ j)) in
-    let one : 1 ≤ p = subst (λ (k : ℕ). 1 ≤ k) (sym e) (pow_pos j) in
+pub sized : (m l j x : ℕ) → 1 ≤ m → j < l → x ≡ m * 2 ^ j → x ≤ 1048576 → Sized m l j x
+sized m l j x low h is most =
+    let r : entry_room * x ≡ entry_room * m * 2 ^ j = ap (λ (k : ℕ). entry_room * k) is ∙ sym (mul_assoc entry_room m (2 ^ j)) in
+    let some : 1 ≤ m * 2 ^ j = mul-le-mul low (pow_pos j) in
     record {
       is = is;
       room = r;
-      some = mul-le-mul low one;
-      most = mul-le-mul high few;
+      some = omega arith;
+      most = most;
       fits = omega (arith, region_within m l (suc j) h, r);
     }
 

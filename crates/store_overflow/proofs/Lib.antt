@@ -1,4 +1,3 @@
-pub mod Halving
 pub mod LevelBytes
 pub mod FirstTries
 pub mod Filling

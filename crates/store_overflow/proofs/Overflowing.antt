@@ -28,6 +28,7 @@ use Rattle.book.proofs.Writes.{as_held, write_within, add_level}
 use Rattle.book.proofs.Good.{tries_good}
 use Rattle.store.proofs.Places.{region_within}
 use Rattle.store_overflow.specs.Overflow.{Overflowed}
+use Rattle.std.specs.Prelude.{Some, None}
 use Rattle.store_overflow.specs.Steps.{FirstEmpty, LevelFilled}
 
 -- what level j and all below it become
@@ -74,12 +75,14 @@ quotient_is : (m held : ℕ) (b : Book) → m ≡ b.M → held ≡ Rattle.book.s
 unfolding quotient
 quotient_is m held b em eh = ap₂ (λ (x y : ℕ). x / y) eh em
 
-module _ (m l τ held j : ℕ) (e : Entry) (store : List ℕ) (d : FirstEmpty l (held / m) j) where
+module _ (m l τ held : ℕ) (e : Entry) (store : List ℕ) where
   fits_book : (b : Book) → m ≡ b.M → l ≡ b.L → {x y : List ℕ} → x ≡ y → front_room + length x ≤ need m l → front_room + length y ≤ need b.M b.L
   fits_book b em el e h = omega (arith, h, ap₂ need em el, ap length e)
 
-  pub overflowed : {after : List ℕ} → j < l → need m l ≤ length store → LevelFilled m l τ j e store after → Overflowed m l τ held e store after
-  overflowed {after} low lent a =
+  pub overflowed : {after : List ℕ} (j : ℕ) → FirstEmpty l (held / m) (Some j) → need m l ≤ length store → LevelFilled m l τ j e store after
+      → Overflowed m l τ held e store after
+  overflowed {after} j d lent a =
+      let low = d.0 in
       let within : front_room + length a.bytes ≤ need m l = omega (arith, region_within m l (suc j) low, a.long) in
       let fit : front_room + length a.bytes ≤ length store = omega arith in
       record {
@@ -88,8 +91,8 @@ module _ (m l τ held j : ℕ) (e : Entry) (store : List ℕ) (d : FirstEmpty l 
         beyond = ap (drop (need m l)) a.is ∙ drop_after store front_room a.bytes fit (need m l) within;
         ours = λ b sound f holds em el et eh h room.
             let q = quotient_is m held b em eh in
-            let empty = subst (λ (n : ℕ). digit j n ≡ 0) q (d.empty low) in
-            let others : (i : ℕ) → i < j → digit i (quotient b.M b.entries) ≡ 1 = λ i k. subst (λ (n : ℕ). digit i n ≡ 1) q (d.ones i k) in
+            let empty = subst (λ (n : ℕ). digit j n ≡ 0) q d.2 in
+            let others : (i : ℕ) → i < j → digit i (quotient b.M b.entries) ≡ 1 = λ i k. subst (λ (n : ℕ). digit i n ≡ 1) q (d.1 i k) in
             let few : length (entries_in j (tries b)) + 1 ≤ m * 2 ^ j =
             subst (λ (n : ℕ). length (entries_in j (tries b)) + 1 ≤ n * 2 ^ j) (sym em) (few_entries b sound e f j (omega (arith, low, el)) h empty others) in
             let are : a.bytes ≡ bytes_for b.M b.τ j (entries_in j (tries b) ++ (e ∷ [])) =
@@ -100,13 +103,13 @@ module _ (m l τ held j : ℕ) (e : Entry) (store : List ℕ) (d : FirstEmpty l 
       }
 
   -- a store of ours has an empty level
-  pub unchanged : l ≤ j → Overflowed m l τ held e store store
-  unchanged high =
+  pub unchanged : FirstEmpty l (held / m) None → Overflowed m l τ held e store store
+  unchanged d =
       record {
         size = refl;
         front = refl;
         beyond = refl;
         ours = λ b sound f holds em el et eh h room.
             absurd (not_all_full b h room (λ i k. subst (λ (n : ℕ). digit i n ≡ 1) (quotient_is m held b em eh)
-            (d.ones i (omega (arith, d.most, el)))));
+            (d i (omega (arith, el)))));
       }

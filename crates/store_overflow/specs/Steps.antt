@@ -1,5 +1,5 @@
 -- What the private functions of an overflow promise each other. Assumes nothing: these are definitions.
-use Rattle.std.specs.Prelude.{ℕ, ◌+◌, ◌*◌, ◌^◌, ◌≤◌, ◌<◌, ◌≡◌, true, List, [], ◌∷◌, ◌++◌, map, length, replicate}
+use Rattle.std.specs.Prelude.{ℕ, ◌+◌, ◌*◌, ◌^◌, ◌≤◌, ◌<◌, ◌≡◌, true, List, [], ◌∷◌, ◌++◌, map, length, replicate, Option, Some, None}
 use Rattle.buffer.specs.Lists.{all, flat}
 use Rattle.buffer.specs.Splice.{splice}
 use Rattle.rows.specs.Entry.{Entry, fits_row}
@@ -17,11 +17,10 @@ use Rattle.book.specs.Image.{padded, Holds}
 use Rattle.book.specs.Good.{GoodTries}
 use Rattle.store.specs.Parts.{up_to}
 
--- r is the first of l digits of n that is 0, or l
-pub record FirstEmpty (l n r : ℕ) : Type 0 where
-  pub most : r ≤ l
-  pub ones : (i : ℕ) → i < r → digit i n ≡ 1
-  pub empty : r < l → digit r n ≡ 0
+-- the first of l digits of n that is 0
+abbrev pub FirstEmpty : ℕ → ℕ → Option ℕ → Type 0
+FirstEmpty l n (Some j) = (j < l) × ((i : ℕ) → i < j → digit i n ≡ 1) × (digit j n ≡ 0)
+FirstEmpty l n None = (i : ℕ) → i < l → digit i n ≡ 1
 
 -- where the slots stand in the region at `base` of a level of up to `size` entries
 abbrev pub slots_at : ℕ → ℕ → ℕ

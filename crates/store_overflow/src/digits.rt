@@ -1,20 +1,17 @@
 // The rule of digits: level i is empty where digit i of held ÷ M is 0.
-ghost use Rattle.std.specs.Prelude.{◌/◌, ◌≤◌};
+ghost use Rattle.std.specs.Prelude.{◌≤◌};
+ghost use Rattle.book.specs.Front.{l_limit};
 ghost use Rattle.store_overflow.specs.Steps.{FirstEmpty};
 
-// The first empty level of l, or l where each has entries.
-pub(crate) fn first_empty(m: usize, l: usize, held: usize) -> usize
-    requires { 1 ≤ m }
-    ensures { FirstEmpty l (held / m) result }
+// The first of l levels that is empty where held ÷ M is n.
+pub(crate) fn first_empty(l: usize, n: usize) -> Option<usize>
+    requires { l ≤ l_limit }
+    ensures { FirstEmpty l n result }
 {
-    let mut rest = held / m;
-    let mut j: usize = 0;
-    while j < l {
-        if rest % 2 == 0 {
-            return j;
+    for j in 0..l {
+        if (n >> j) % 2 == 0 {
+            return Some(j);
         }
-        rest /= 2;
-        j += 1;
     }
-    j
+    None
 }

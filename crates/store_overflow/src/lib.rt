@@ -2,6 +2,7 @@
 #![tactic(auto)]
 
 pub mod digits;
+pub mod entry;
 pub mod gathering;
 pub mod merging;
 pub mod overflow;

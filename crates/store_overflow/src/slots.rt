@@ -1,11 +1,10 @@
 // The slot of the new entry.
 ghost use Rattle.std.specs.Prelude.{◌≡◌, ◌+◌, ◌≤◌, length};
 ghost use Rattle.buffer.specs.Splice.{splice};
-ghost use Rattle.matcher.specs.Bytes.{path_limit};
-ghost use Rattle.rows.specs.Sizes.{reference_size};
-ghost use Rattle.rows.specs.Entry.{entry};
 ghost use Rattle.entries.specs.Slots.{slot_size, slot};
+ghost use Rattle.store_overflow.specs.Entering.{entry_of};
 
+use crate::entry::Entry;
 use buffer::moves::{clear, copy_from};
 use buffer::numbers::put64;
 use entries::SLOT_SIZE;
@@ -15,12 +14,13 @@ use rows::sizes::{LENGTH_AT, PATH_AT, REFERENCE_AT};
 const PATH_ROOM: usize = SLOT_SIZE - PATH_AT;
 
 // Writes the slot of an entry: its row, and zeros behind it.
-pub(crate) fn put_slot(s: &mut [u8], at: usize, path: &[u8], value: u64, reference: &[u8])
-    requires { (at + slot_size ≤ length s.old) × (length path.now ≤ path_limit) × (length reference.now ≡ reference_size) }
-    ensures { s.new ≡ splice s.old at (slot (entry path.now value reference.now)) }
+pub(crate) fn put_slot(s: &mut [u8], at: usize, entry: &Entry<'_>)
+    requires { at + slot_size ≤ length s.old }
+    ensures { s.new ≡ splice s.old at (slot (entry_of entry.now)) }
 {
-    put64(s, at, value);
-    copy_from(s, at + REFERENCE_AT, reference);
+    let path = entry.path;
+    put64(s, at, entry.value);
+    copy_from(s, at + REFERENCE_AT, entry.reference);
     s[at + LENGTH_AT] = path.len() as u8;
     copy_from(s, at + PATH_AT, path);
     clear(s, at + PATH_AT + path.len(), PATH_ROOM - path.len());

@@ -18,7 +18,7 @@ use Rattle.book.specs.Records.{walk_bytes, record_of}
 use Rattle.book.specs.FromTries.{entries_of}
 use Rattle.book.proofs.EntryKeys.{keys_of_entries}
 use Rattle.read_back.specs.Readings.{trie_record, TrieRead}
-use Rattle.store.proofs.Listing.{Walked}
+use Rattle.store.specs.Listing.{Walked}
 use Rattle.store_read.specs.Listings.{RecordsOf}
 
 -- ---- records of keys of entries

@@ -1,10 +1,13 @@
 -- The records of a trie of a store, and what a reading back lists of them. Assumes nothing: these are definitions.
-use Rattle.std.specs.Prelude.{ℕ, ◌≡◌, List, [], map}
+use Rattle.std.specs.Prelude.{ℕ, ◌≡◌, ◌≤◌, List, [], map}
+use Rattle.std.proofs.Common.{arith}
+use Rattle.rows.specs.Sizes.{row_size, record_size}
 use Rattle.buffer.specs.Lists.{All}
 use Rattle.rows.specs.Order.{entry_order}
 use Rattle.rows.specs.Sorted.{sorted}
 use Rattle.trie_theory.specs.Forest.{Forest, keys}
 use Rattle.trie_theory.specs.Entries.{OfEntry}
+use Rattle.book.specs.Replies.{Reply, reply}
 use Rattle.book.specs.Records.{record_of}
 use Rattle.book.specs.FromTries.{entries_of}
 use Rattle.read_back.specs.Readings.{TrieBytes}
@@ -20,3 +23,11 @@ pub record RecordsOf (t : List ℕ) (records : List (List ℕ)) (second : ℕ) :
   pub level : Level t trie
   pub records_are : records ≡ map (record_of trie) (sorted entry_order (entries_of trie))
   pub second_is : second ≡ 0
+
+-- a reading back says how many records there are
+abbrev pub records_read : ℕ → Reply
+records_read n = reply 0 n 0
+
+-- a record begins with a row
+pub record_wide : row_size ≤ record_size
+record_wide = omega arith

@@ -1,5 +1,5 @@
 -- The numbers of a search, and what it promises with each. Assumes nothing.
-use mathlib.Core.Path.{◌≡◌, refl, sym, ap, ◌∙◌}
+use mathlib.Core.Path.{◌≡◌, refl, sym, ap, subst, ◌∙◌}
 use mathlib.Core.Bool.{true, false}
 use Prim.Native.Nat.{ℕ, zero, suc, ◌≤◌, ◌<◌}
 use mathlib.Core.List.{List, [], ◌∷◌, map}
@@ -8,11 +8,9 @@ use lib.ListN.{length, length-map}
 use lib.Dec.{ltb}
 use borrow.Author.Tests.{lt-ltb, le-ltb}
 use Rattle.buffer.specs.Lists.{pick}
-use Rattle.buffer.specs.Sizes.{four_byte_limit}
 use Rattle.buffer.proofs.Sums.{length_pick, count_most}
-use Rattle.matcher.specs.Form.{pattern_form, pattern_number, is_fine}
-use Rattle.matcher.specs.declared.form.Form.{Form}
-use Rattle.matcher.specs.declared.form.Form.TheVariants.{Fine, TooLong, Malformed}
+use Rattle.matcher.specs.Form.{Form, pattern_form, pattern_number, is_fine}
+use Rattle.matcher.specs.declared.form.FormError.TheVariants.{TooLong, Malformed}
 use Rattle.rows.specs.Sizes.{row_size}
 use Rattle.rows.specs.Entry.{row}
 use Rattle.rows.specs.Order.{entry_order}
@@ -37,49 +35,58 @@ use Rattle.book.proofs.Good.{tries_good}
 use Rattle.store.specs.Opening.{Reads}
 use Rattle.store.specs.declared.front.Front as Code
 use Rattle.store.specs.Listing.{Listed}
+use Rattle.std.specs.Prelude.{Ok, Err}
+use Rattle.store.specs.Said.{refused}
+use Rattle.store.specs.declared.refusal.Refusal.{Refusal}
+use Rattle.store.specs.declared.refusal.Refusal.TheVariants.{PathMalformed, PathTooLong, ReferenceSize, NoStore, OutsideLimits, TooLittleMemory, PatternMalformed, PatternTooLong, Full, EmptyRange, NoRoom}
 use Rattle.store_search.specs.Listing.{query_number, RowsOf}
 
 -- ---- the query's own checks
 
-module _ (q : Query) (n : ℕ) (is : n ≡ pattern_number (pattern_form q.pattern)) where
-  pub pattern_refused : 0 < n → n ≡ query_number q
-  pattern_refused h = go n refl
+-- no refusal has number 0
+refused_some : (e : Refusal) → (refused e).number ≡ 0 → ⊥
+refused_some PathMalformed z = absurd (omega arith)
+refused_some PathTooLong z = absurd (omega arith)
+refused_some ReferenceSize z = absurd (omega arith)
+refused_some NoStore z = absurd (omega arith)
+refused_some OutsideLimits z = absurd (omega arith)
+refused_some TooLittleMemory z = absurd (omega arith)
+refused_some PatternMalformed z = absurd (omega arith)
+refused_some PatternTooLong z = absurd (omega arith)
+refused_some Full z = absurd (omega arith)
+refused_some EmptyRange z = absurd (omega arith)
+refused_some (NoRoom n) z = absurd (omega arith)
+
+module _ (q : Query) where
+  pub pattern_said : (e : Refusal) → refused e ≡ reply (pattern_number (pattern_form q.pattern)) 0 0 → (refused e ≡ reply (query_number q) 0 0) × (0 < query_number q)
+  unfolding query_number
+  pattern_said e h = go (pattern_form q.pattern) h
     where
-      go : (k : ℕ) → n ≡ k → n ≡ query_number q
-      go zero z = absurd (omega arith)
-      go (suc k) z = z ∙ (unfold query_number in rw (← is, z))
+      go : (f : Form) → refused e ≡ reply (pattern_number f) 0 0
+          → (refused e ≡ reply (first_of (pattern_number f ∷ (10 when ltb q.high q.low) ∷ [])) 0 0) × (0 < first_of (pattern_number f ∷ (10 when ltb q.high q.low) ∷ []))
+      go (Ok x) k = absurd (refused_some e (ap (λ (r : Reply). r.number) k))
+      go (Err TooLong) k = (k, omega arith)
+      go (Err Malformed) k = (k, omega arith)
 
-  pub range_refused : n ≤ 0 → q.high < q.low → 10 ≡ query_number q
-  unfolding query_number
-  range_refused h k =
-      let z : pattern_number (pattern_form q.pattern) ≡ 0 = omega arith in
-      rw (z, lt-ltb q.high q.low k)
+  module _ (fine : reply 0 0 0 ≡ reply (pattern_number (pattern_form q.pattern)) 0 0) where
+    no_number : pattern_number (pattern_form q.pattern) ≡ 0
+    no_number = sym (ap (λ (r : Reply). r.number) fine)
 
-  pub query_fine : n ≤ 0 → q.low ≤ q.high → 0 ≡ query_number q
-  unfolding query_number
-  query_fine h k =
-      let z : pattern_number (pattern_form q.pattern) ≡ 0 = omega arith in
-      rw (z, le-ltb q.high q.low k)
+    pub range_said : q.high < q.low → (reply 10 0 0 ≡ reply (query_number q) 0 0) × (0 < query_number q)
+    unfolding query_number
+    range_said h = rw (no_number, lt-ltb q.high q.low h) (refl, omega arith)
 
-number_small : (f : Form) → pattern_number f < four_byte_limit
-number_small Fine = omega arith
-number_small TooLong = omega arith
-number_small Malformed = omega arith
+    pub query_fine : q.low ≤ q.high → query_number q ≡ 0
+    unfolding query_number
+    query_fine h = rw (no_number, le-ltb q.high q.low h)
 
-pub pattern_small : (f : Form) (n : ℕ) → n ≡ pattern_number f → n < four_byte_limit
-pattern_small f n e = omega (arith, number_small f)
-
-pub fine_pattern : (q : Query) → query_number q ≡ 0 → is_fine (pattern_form q.pattern) ≡ true
-unfolding query_number
-fine_pattern q h = go (pattern_form q.pattern) h
-  where
-    go : (f : Form) → first_of (pattern_number f ∷ (10 when ltb q.high q.low) ∷ []) ≡ 0 → is_fine f ≡ true
-    go Fine e = refl
-    go TooLong e = absurd (let z : ◌≡◌ {A = ℕ} 8 0 = e in omega arith)
-    go Malformed e = absurd (let z : ◌≡◌ {A = ℕ} 7 0 = e in omega arith)
-
-pub accepted_query : (q : Query) (n : ℕ) → n ≡ query_number q → n ≤ 0 → query_number q ≡ 0
-accepted_query q n e h = omega arith
+    pub fine_pattern : is_fine (pattern_form q.pattern) ≡ true
+    fine_pattern = go (pattern_form q.pattern) no_number
+      where
+        go : (f : Form) → pattern_number f ≡ 0 → is_fine f ≡ true
+        go (Ok x) e = refl
+        go (Err TooLong) e = absurd (let z : ◌≡◌ {A = ℕ} 8 0 = e in omega arith)
+        go (Err Malformed) e = absurd (let z : ◌≡◌ {A = ℕ} 7 0 = e in omega arith)
 
 search_number_lem : (n : ℕ) (f : Front) (q : Query) → no_store n f ≡ false → search_number n f q ≡ query_number q
 unfolding search_number query_number
@@ -157,3 +164,10 @@ module _ {q : Query} {store answer filled : List ℕ} {g : Code.Front} {x : Repl
         otherwise = λ y. rw (← r.held_is) w.otherwise;
         ours = of_book;
       }
+
+-- a listing of the store and the query that were opened and checked
+pub listed_as : {q asks : Query} {store bytes answer filled : List ℕ} {m l held : ℕ} {x : Reply} → asks ≡ q → bytes ≡ store
+    → Listed row_size (RowsOf asks bytes m l) held answer filled x → Listed row_size (RowsOf q store m l) held answer filled x
+listed_as {q} {asks} {store} {bytes} {answer} {filled} {m} {l} {held} {x} e f w =
+    subst (λ (y : Query). Listed row_size (RowsOf y store m l) held answer filled x) e
+    (subst (λ (b : List ℕ). Listed row_size (RowsOf asks b m l) held answer filled x) f w)

@@ -19,7 +19,6 @@ use Rattle.trie_theory.specs.Search.{found, nodes_entered}
 use Rattle.trie_theory.specs.Encode.{encode}
 use Rattle.entries.specs.Query.{Query, reaches, wants}
 use Rattle.entries.proofs.Found.{found_keys}
-use Rattle.trie_read.specs.Shape.{part}
 use Rattle.trie_read.proofs.Stretch.{length_part}
 use Rattle.gather.specs.KeySlots.{has_slot}
 use Rattle.gather.specs.Walks.{joined, written}
@@ -34,7 +33,7 @@ use Rattle.book.specs.FromTries.{key_entry, found_of, found_in}
 use Rattle.book.specs.Image.{Holds}
 use Rattle.book.specs.Good.{Good, GoodTries}
 use Rattle.book.proofs.Keys.{entry_valued}
-use Rattle.store.specs.Parts.{numbered, up_to, PartOf}
+use Rattle.store.specs.Parts.{numbered, up_to, TrieIs}
 use Rattle.store.proofs.Powers.{power_most, product_most}
 use Rattle.store.proofs.Places.{up_to_next, good_regular, good_numbered}
 use Rattle.store_search.specs.Listing.{found_up_to, nodes_up_to, TriesSearched}
@@ -104,9 +103,9 @@ unfolding need
 need_most m l h k = omega (arith, product_most m (2 ^ l) h (power_most l k))
 
 -- the bytes of a trie are few
-pub part_few : {store : List ℕ} {m l k from to : ℕ} → PartOf store m l k from to → m ≤ 4096 → l ≤ 8 → need m l ≤ length store
-    → length (part from to store) ≤ need_limit
-part_few {store} {m} {l} {k} {from} {to} p h i n = omega (arith, length_part store from to (omega (arith, p.within)), p.within, need_most m l h i)
+pub trie_few : {store t : List ℕ} {m l k : ℕ} → TrieIs store m l k t → m ≤ 4096 → l ≤ 8 → need m l ≤ length store → length t ≤ need_limit
+trie_few {store} {t} {m} {l} {k} p h i n =
+    omega (arith, ap length p.is, length_part store p.from p.to (omega (arith, p.part_of.within)), p.part_of.within, need_most m l h i)
 
 none_written : (s : List ℕ) (room : ℕ) → s ≡ splice s 0 (joined key_row (take room []))
 none_written s room = sym (rw (take-nil {A = Key} room, joined_none key_row) (splice_nil s 0))
@@ -125,10 +124,10 @@ searched_none q store m l room s =
       are = λ f t a b g h. (refl, refl);
     }
 
-pub searched_next : {q : Query} {store : List ℕ} {m l k room from to : ℕ} {s s' s'' : List ℕ} {r d r' d' : ℕ} → TriesSearched q store m l k room s s' r d
-    → PartOf store m l k from to → TrieSearched q (part from to store) room r d s' s'' r' d' → k ≤ l → length (part from to store) ≤ need_limit → room * row_size ≤ length s
+pub searched_next : {q : Query} {store bs : List ℕ} {m l k room : ℕ} {s s' s'' : List ℕ} {r d r' d' : ℕ} → TriesSearched q store m l k room s s' r d
+    → TrieIs store m l k bs → TrieSearched q bs room r d s' s'' r' d' → k ≤ l → length bs ≤ need_limit → room * row_size ≤ length s
     → TriesSearched q store m l (k + 1) room s s'' r' d'
-searched_next {q} {store} {m} {l} {k} {room} {from} {to} {s} {s'} {s''} {r} {d} {r'} {d'} a p b h few fits =
+searched_next {q} {store} {bs} {m} {l} {k} {room} {s} {s'} {s''} {r} {d} {r'} {d'} a p b h few fits =
     record {
       put = a.put ++ b.put;
       fit = tested_append has_slot a.put b.put a.fit b.fit;
@@ -142,7 +141,7 @@ searched_next {q} {store} {m} {l} {k} {room} {from} {to} {s} {s'} {s''} {r} {d} 
           ∙ written_behind key_row row_size length_row 0 room b.put a.put s' s b.fit a.fit (omega (arith, a.long)) (sym a.long) a.writes;
       are = λ f t em el g holds.
           let x = a.are f t em el g holds in
-          let y = b.are _ _ (trie_found q _ (numbered t k) (part from to store) (good_numbered f t g k (omega arith)) (p.holds f t em el g holds)) in (
+          let y = b.are _ _ (trie_found q _ (numbered t k) bs (good_numbered f t g k (omega arith)) (p.is ∙ p.part_of.holds f t em el g holds)) in (
             (λ i. x.0 i ++ y.0 i) ∙ sym (found_next q k t),
             omega (arith, x.1, y.1, b.nodes_are, nodes_next q k t),
           );

@@ -21,7 +21,7 @@ use Rattle.gather.proofs.Putting.{all_even}
 use Rattle.search.specs.Steps.{key_row}
 use Rattle.search.proofs.Finding.{length_row}
 use Rattle.book.specs.FromTries.{key_entry, found_in}
-use Rattle.store.proofs.Listing.{Walked}
+use Rattle.store.specs.Listing.{Walked}
 use Rattle.store_search.specs.Listing.{TriesSearched, RowsOf}
 use Rattle.store_search.proofs.Keys.{rowed}
 use Rattle.store_search.proofs.Found.{finds}

@@ -1,5 +1,5 @@
 -- A search over the tries of a store: what it finds, and what it lists of that. Assumes nothing: these are definitions.
-use Rattle.std.specs.Prelude.{ℕ, ◌*◌, ◌≤◌, ◌≡◌, true, List, [], ◌∷◌, map, length, take, ltb}
+use Rattle.std.specs.Prelude.{ℕ, ◌*◌, ◌≤◌, ◌<◌, ◌≡◌, true, List, [], ◌∷◌, map, length, take, ltb, Result, Ok, Err}
 use Rattle.buffer.specs.Lists.{all, sum, flat}
 use Rattle.buffer.specs.Splice.{splice}
 use Rattle.matcher.specs.Form.{pattern_form, pattern_number}
@@ -13,18 +13,32 @@ use Rattle.entries.specs.Query.{Query, reaches, wants}
 use Rattle.gather.specs.KeySlots.{has_slot}
 use Rattle.gather.specs.Walks.{joined}
 use Rattle.search.specs.Steps.{key_row}
+use Rattle.search.specs.Asks.{asks}
+use Rattle.search.specs.declared.query.Query as Code
+use Rattle.search.specs.declared.walk.Found.{Found}
 use Rattle.book.specs.Front.{Front, need_limit}
 use Rattle.book.specs.Tries.{Tries}
-use Rattle.book.specs.Replies.{first_of, ◌when◌}
+use Rattle.book.specs.Replies.{Reply, reply, first_of, ◌when◌}
 use Rattle.book.specs.Image.{Holds}
 use Rattle.book.specs.Good.{GoodTries}
 use Rattle.book.specs.Searching.{nodes_of}
 use Rattle.book.specs.FromTries.{found_in}
 use Rattle.store.specs.Parts.{up_to}
+use Rattle.store.specs.Said.{refused}
+use Rattle.store.specs.declared.refusal.Refusal.{Refusal}
 
 -- the numbers that a query's own checks decide: 8, 7, 10
 unfoldable pub query_number : Query → ℕ
 query_number q = first_of (pattern_number (pattern_form q.pattern) ∷ (10 when ltb q.high q.low) ∷ [])
+
+-- the query's own checks give the query q, or the refusal that they decide
+abbrev pub Asked : Query → Result Code.Query Refusal → Type 0
+Asked q (Ok x) = (asks x ≡ q) × (query_number q ≡ 0)
+Asked q (Err e) = (refused e ≡ reply (query_number q) 0 0) × (0 < query_number q)
+
+-- what an accepted search says
+abbrev pub found_said : Found → Reply
+found_said f = reply 0 f.rows f.nodes
 
 -- the keys that a search finds in the first k tries, and the nodes that it enters there
 unfoldable pub found_up_to : Query → ℕ → Tries → List Key

@@ -1,42 +1,56 @@
 // The call: its checks in the sequence of document 01, and then the listing.
 ghost use Rattle.std.specs.Prelude.{◌≡◌};
+ghost use Rattle.matcher.specs.Form.{pattern_form, pattern_number};
 ghost use Rattle.entries.specs.Query.{asked};
 ghost use Rattle.book.specs.Promises.{Searches};
-ghost use Rattle.store.specs.Said.{said};
-ghost use Rattle.store_search.specs.Listing.{query_number};
+ghost use Rattle.book.specs.Replies.{reply};
+ghost use Rattle.store.specs.Said.{said, done};
+ghost use Rattle.store_search.specs.Listing.{Asked, found_said};
 
-use crate::listing::list_rows;
-use matcher::form::{check_pattern, pattern_number};
-use store::front::{Opened, open};
-use store::reply::{Reply, plain_reply};
+use crate::walk::Search;
+use matcher::form::{FormError, check_pattern};
+use search::query::Query;
+use search::walk::Found;
+use store::listing::list;
+use store::opened::Store;
+use store::refusal::Refusal;
+use value_range::value::Span;
 
-// The number of the query's own checks: pattern first, then range.
-fn query_number(pattern: &[u8], low: u64, high: u64) -> u32
-    ensures { result ≡ query_number (asked pattern.now low high) }
+// Is the pattern formed?
+fn check_form(pattern: &[u8]) -> Result<(), Refusal>
+    ensures { said done result ≡ reply (pattern_number (pattern_form pattern.now)) 0 0 }
 {
-    let number = pattern_number(check_pattern(pattern));
-    if number > 0 {
-        return number as u32;
+    match check_pattern(pattern) {
+        Ok(()) => Ok(()),
+        Err(FormError::TooLong) => Err(Refusal::PatternTooLong),
+        Err(FormError::Malformed) => Err(Refusal::PatternMalformed),
     }
-    if high < low {
-        return 10;
-    }
-    0
 }
 
-// Searches a store for the entries whose path the pattern matches and whose value is from low to high. The answer has their rows, and the reply
-// their number and the nodes entered.
-pub fn search(store: &[u8], pattern: &[u8], low: u64, high: u64, answer: &mut [u8]) -> Reply
-    ensures { Searches (asked pattern.now low high) store.now answer.old answer.new (said result) }
+// The query, or the first of its own checks that refuses it: pattern first, then range.
+fn check<'a>(pattern: &'a [u8], range: Span) -> Result<Query<'a>, Refusal>
+    ensures { Asked (asked pattern.now range.from range.to) result }
 {
-    match open(store) {
-        Opened::Store(f) => {
-            let refusal = query_number(pattern, low, high);
-            if refusal > 0 {
-                return plain_reply(refusal, 0);
-            }
-            list_rows(store, f.m, f.l, f.held, pattern, low, high, answer)
-        }
-        Opened::Missing => plain_reply(4, 0),
+    check_form(pattern)?;
+    if range.to < range.from {
+        return Err(Refusal::EmptyRange);
     }
+    Ok(Query::new(pattern, range))
+}
+
+// Searches a store for the entries whose path the pattern matches and whose value is from low to high. The answer has their rows; returned are
+// their number and the nodes entered.
+pub fn search(
+    store: &[u8],
+    pattern: &[u8],
+    low: u64,
+    high: u64,
+    answer: &mut [u8],
+) -> Result<Found, Refusal>
+    ensures { Searches (asked pattern.now low high) store.now answer.old answer.new (said found_said result) }
+{
+    let store = Store::open(store)?;
+    let query = check(pattern, Span { from: low, to: high })?;
+    let (rows, nodes) = list(&Search { store, query }, store.front.held, answer)?;
+    Ok(Found { rows, nodes })
 }

@@ -1,52 +1,46 @@
 // A search over all tries of a store.
-ghost use Rattle.std.specs.Prelude.{◌≡◌, true, ◌+◌, ◌*◌, ◌≤◌, length};
-ghost use Rattle.matcher.specs.Form.{pattern_form, is_fine};
+ghost use Rattle.std.specs.Prelude.{◌≡◌, ◌*◌, ◌≤◌, length};
+ghost use Rattle.std.proofs.Math.Nat.{le_refl};
 ghost use Rattle.rows.specs.Sizes.{row_size};
-ghost use Rattle.entries.specs.Query.{asked};
-ghost use Rattle.book.specs.Front.{need, m_limit, l_limit};
-ghost use Rattle.store_search.specs.Listing.{TriesSearched};
+ghost use Rattle.search.specs.Asks.{asks};
+ghost use Rattle.store.specs.Listing.{Walked};
+ghost use Rattle.store_search.specs.Listing.{RowsOf};
 
-use matcher::reach::literal_prefix;
+use rows::sizes::ROW_SIZE;
+use search::query::Query;
 use search::walk::{Found, search_trie};
-use store::part::trie_part;
+use store::listing::Walk;
+use store::opened::Store;
 
-// Searches the small trie and every level. Of the rows found it writes the first `room` into the answer, and counts all.
-pub(crate) fn search_tries(
-    store: &[u8],
-    m: usize,
-    l: usize,
-    pattern: &[u8],
-    low: u64,
-    high: u64,
-    answer: &mut [u8],
-    room: usize,
-) -> Found
-    requires pattern_value { is_fine (pattern_form pattern.now) ≡ true }
-    requires m_le_m_limit { (m ≤ m_limit) × (l ≤ l_limit) × (need m l ≤ length store.now) × (room * row_size ≤ length answer.old) }
-    ensures { TriesSearched (asked pattern.now low high) store.now m l (l + 1) room answer.old answer.new result.rows result.nodes }
-{
-    let literal = literal_prefix(pattern);
-    let mut rows: usize = 0;
-    let mut nodes: usize = 0;
-    let mut k: usize = 0;
-    while k <= l {
-        let part = trie_part(store, m, l, k);
-        let from = part.from;
-        let to = part.to;
-        let found = search_trie(
-            &store[from..to],
-            pattern,
-            literal,
-            low,
-            high,
-            answer,
-            room,
-            rows,
-            nodes,
-        );
-        rows = found.rows;
-        nodes = found.nodes;
-        k += 1;
+// What is searched, and what for.
+#[derive(Clone, Copy)]
+pub(crate) struct Search<'a> {
+    pub(crate) store: Store<'a>,
+    pub(crate) query: Query<'a>,
+}
+
+impl Walk for Search<'_> {
+    ghost WIDTH = { row_size };
+
+    fn width(&self) -> usize
+        ensures { result ≡ row_size }
+    {
+        ROW_SIZE
     }
-    Found { rows, nodes }
+
+    ghost Rows = { λ s. RowsOf (asks s.query) s.store.bytes.now s.store.front.m s.store.front.l };
+
+    // The small trie first, and then every level.
+    fn walk(&self, answer: &mut [u8], room: usize) -> (usize, usize)
+        requires { room * row_size ≤ length answer.old }
+        ensures { Walked row_size (RowsOf (asks self.now.query) self.now.store.bytes.now self.now.store.front.m self.now.store.front.l) room answer.old answer.new result.0 result.1 }
+    {
+        let mut found = Found { rows: 0, nodes: 0 };
+        for k in 0..=self.store.front.l {
+            found = search_trie(&self.query, self.store.trie(k), answer, room, found);
+        }
+        (found.rows, found.nodes)
+    }
+
+    ghost wide = { le_refl row_size };
 }

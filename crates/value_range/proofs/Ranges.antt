@@ -1,15 +1,18 @@
 -- The value test, by the tests it is made of. Assumes nothing.
 use mathlib.Core.Path.{◌≡◌, refl, sym, ap, subst, ◌∙◌}
-use mathlib.Core.Bool.{true, false, ◌&&◌, and_comm}
-use Prim.Native.Nat.{ℕ, zero, suc, ◌+◌, ◌-◌, ◌*◌, ◌/◌, ◌%◌, ◌^◌, ◌≤◌, ◌<◌}
+use mathlib.Core.Bool.{true, false, cond, ◌&&◌, and_comm}
+use Prim.Native.Nat.{ℕ, zero, suc, ◌+◌, ◌-◌, ◌*◌, ◌/◌, ◌^◌, ◌≤◌, ◌<◌}
 use mathlib.Core.List.{List, [], ◌∷◌, ◌++◌, append-nil}
 use native.Mathlib.Omega.{arith}
 use native.Mathlib.Nat.{add-mul, one-mul, mul_assoc, le-div_iff_mul-le, div-lt_iff_lt-mul, one-le-pow, zero-lt-suc, pow-suc, pow-le-pow_right, div-eq_of_lt, lt_of_lt_of_le}
-use lib.ListN.{length, take, drop, get_or, length-append}
-use lib.Pow.{pow-add, shl_exact, high}
+use lib.ListN.{length, take, drop, get_or, replicate, length-append, length-replicate}
+use Rattle.std.specs.Option.{SomeIff, unwrap_or}
+use Rattle.std.specs.Prelude.{Option, Some, None}
+use Rattle.std.proofs.lemmas.List.{drop-replicate}
+use lib.Pow.{pow-add, high}
 use lib.Seq.{take_all, length-take-le}
-use lib.Dec.{leb}
-use borrow.Author.Tests.{le-leb, lt-leb, leb-true, eq-eqb, ne_eqb}
+use lib.Dec.{leb, eqb}
+use borrow.Author.Tests.{le-leb, lt-leb, leb-true}
 use Rattle.buffer.specs.Lists.{all}
 use Rattle.buffer.specs.Splice.{region}
 use Rattle.buffer.specs.Numbers.{number, byte}
@@ -29,18 +32,7 @@ out_long pattern k low high h = rw (lt-leb (length k) value_size h, and_false (l
 
 -- ---- steps of a width
 
-no_step : (i : ℕ) → leb 1 i && leb i 0 ≡ false
-no_step zero = refl
-no_step (suc i) = and_false (leb 1 (suc i)) (leb (suc i) 0) (lt-leb (suc i) 0 (omega arith))
-
 module _ (low high first width : ℕ) where
-  pub steps_none : high < low → Steps low high first width 1 0
-  steps_none h = record { are = λ i. no_step i ∙ rw (lt-leb low high h) }
-
-  pub steps_past : high < first → Steps low high first width 1 0
-  steps_past h =
-      record { are = λ i. no_step i ∙ sym (and_false (leb low high) _ (rw (lt-leb (first + i * width) high (omega arith)))) }
-
   module _ (wide : 0 < width) (range : low ≤ high) (inside : first ≤ high) where
     last_step : (i : ℕ) → leb i ((high - first) / width) ≡ leb (first + i * width) high
     last_step i =
@@ -108,24 +100,15 @@ spans_first q n from to short s = spans q [] n from to (omega arith) s
 -- ---- the answer by the span
 
 module _ (q : Query) (k s : List ℕ) (from to : ℕ) (spans-s : Spans q k (length s) from to) where
-  pub with_below : number s < from → Mismatch ≡ value_reach q (k ++ s)
+  pub with_span : value_reach q (k ++ s) ≡ cond (leb from (number s) && leb (number s) to) (cond (eqb (length k + length s) value_size) Match Incomplete) Mismatch
   unfolding value_reach
-  with_below h = rw (← spans-s.are s refl, lt-leb from (number s) h)
+  with_span = rw (← spans-s.are s refl, length-append k s)
+
+  pub with_below : number s < from → Mismatch ≡ value_reach q (k ++ s)
+  with_below h = rw (with_span, lt-leb from (number s) h)
 
   pub with_above : to < number s → Mismatch ≡ value_reach q (k ++ s)
-  unfolding value_reach
-  with_above h = rw (← spans-s.are s refl, and_false (leb from (number s)) (leb (number s) to) (lt-leb (number s) to h))
-
-  module _ (f : from ≤ number s) (t : number s ≤ to) where
-    pub with_whole : length k + length s ≡ value_size → Match ≡ value_reach q (k ++ s)
-    unfolding value_reach
-    with_whole e =
-        rw (← spans-s.are s refl, le-leb from (number s) f, le-leb (number s) to t, length-append k s, eq-eqb (length k + length s) value_size e)
-
-    pub with_part : (length k + length s ≡ value_size → ⊥) → Incomplete ≡ value_reach q (k ++ s)
-    unfolding value_reach
-    with_part e =
-        rw (← spans-s.are s refl, le-leb from (number s) f, le-leb (number s) to t, length-append k s, ne_eqb (length k + length s) value_size e)
+  with_above h = rw (with_span, and_false (leb from (number s)) (leb (number s) to) (lt-leb (number s) to h))
 
 -- ---- one byte more
 
@@ -141,6 +124,10 @@ too_long pattern k s low high h f = out_long pattern (k ++ take 1 s) low high (o
 
 -- ---- the number of bytes, one after another
 
+pub number_none : 0 ≡ number []
+unfolding number
+number_none = refl
+
 pub number_more : (s : List ℕ) (i : ℕ) → i < length s → number (take (i + 1) s) ≡ number (take i s) * 256 + get_or s i 0
 unfolding number
 number_more s i h =
@@ -155,13 +142,6 @@ number_fits x i h l =
     let p : 256 ^ i ≤ 256 ^ 7 = pow-le-pow_right (zero-lt-suc 255) {i = i} {j = 7} (omega arith) in
     omega (arith, h, p)
 
-pub number_none : (s : List ℕ) → 0 ≡ number (take 0 s)
-unfolding number
-number_none s = refl
-
-pub number_all : (s : List ℕ) (i : ℕ) → length s ≤ i → number (take i s) ≡ number s
-number_all s i h = ap number (take_all i s h)
-
 -- ---- shifts by whole bytes
 
 bits : (n : ℕ) → 2 ^ (8 * n) ≡ 256 ^ n
@@ -170,19 +150,14 @@ bits (suc n) =
     let e : 8 * suc n ≡ 8 * n + 8 = omega arith in
     rw (e, pow-add 2 (8 * n) 8, bits n) (sym (pow-suc 256 n))
 
-pub shifted : (x n : ℕ) → x / 2 ^ (8 * n) ≡ x / 256 ^ n
-shifted x n = rw (bits n)
-
-pub shifted_out : (x n : ℕ) → x < 18446744073709551616 → value_size ≤ n → 0 ≡ x / 256 ^ n
-shifted_out x n h l = sym (div-eq_of_lt (lt_of_lt_of_le h (pow-le-pow_right (zero-lt-suc 255) {i = 8} {j = n} l)))
-
-pub number_empty : (s : List ℕ) (o n : ℕ) → n ≡ 0 → 0 ≡ number (region s o n)
-unfolding number
-number_empty s o n e = rw e
+-- a shift that `None` stands for where it takes all bits
+pub shifted : (x n : ℕ) (o : Option ℕ) → x < 18446744073709551616 → n ≤ value_size → SomeIff o (8 * n < 64) (x / 2 ^ (8 * n)) → unwrap_or o 0 ≡ x / 256 ^ n
+shifted x n None h l s = sym (div-eq_of_lt (lt_of_lt_of_le h (pow-le-pow_right (zero-lt-suc 255) {i = 8} {j = n} (omega arith))))
+shifted x n (Some y) h l s = s.1 ∙ ap (λ (d : ℕ). x / d) (bits n)
 
 -- the first n of eight bytes that are read as one number
 pub number_shifted : (s : List ℕ) (o n x : ℕ) → all byte s ≡ true → o + value_size ≤ length s → n ≤ value_size → x ≡ number (region s o value_size)
-    → x / 2 ^ (8 * (value_size - n)) ≡ number (region s o n)
+    → x / 256 ^ (value_size - n) ≡ number (region s o n)
 number_shifted s o n x b l h e =
     let j : ℕ = value_size - n in
     let first = region s o n in
@@ -192,18 +167,14 @@ number_shifted s o n x b l h e =
     let small : number rest < 256 ^ j = subst (λ (m : ℕ). number rest < 256 ^ m) long (number_below rest (tested_take byte j (drop (o + n) s) (tested_drop byte (o + n) s b))) in
     let whole : x ≡ number first * 2 ^ (8 * j) + number rest =
     e ∙ ap (λ (m : ℕ). number (region s o m)) sum ∙ ap number (region_add s o n j) ∙ number_append first rest ∙ ap (λ (m : ℕ). number first * 256 ^ m + number rest) long ∙ ap (λ (m : ℕ). number first * m + number rest) (sym (bits j)) in
-    ap (λ (y : ℕ). y / 2 ^ (8 * j)) whole ∙ high (number first) (8 * j) (rw (bits j) small)
+    ap (λ (d : ℕ). x / d) (sym (bits j)) ∙ ap (λ (y : ℕ). y / 2 ^ (8 * j)) whole ∙ high (number first) (8 * j) (rw (bits j) small)
 
-pub lowest_none : (k : List ℕ) → length k ≡ 0 → 0 ≡ lowest k
-unfolding lowest number
-lowest_none [] e = refl
-lowest_none (b ∷ k) e = absurd (omega arith)
-
-pub lowest_shifted : (k : List ℕ) (x : ℕ) → x ≡ number k → x < 256 ^ length k → length k ≤ value_size → (x * 2 ^ (8 * (value_size - length k))) % 2 ^ 64 ≡ lowest k
+-- known bytes laid over eight zeros
+pub lowest_filled : (k : List ℕ) → length k ≤ value_size → number (region (k ++ drop (length k) (replicate value_size 0)) 0 value_size) ≡ lowest k
 unfolding lowest
-lowest_shifted k x e h l =
-    let j : ℕ = value_size - length k in
-    shl_exact {a = x} (8 * length k) (8 * j) 64 (rw (bits (length k)) h) (omega arith) ∙ rw (bits j, e) (sym (least k j))
+lowest_filled k l =
+    let whole : k ++ drop (length k) (replicate value_size 0) ≡ k ++ replicate (value_size - length k) 0 = ap (λ (z : List ℕ). k ++ z) (drop-replicate (length k) value_size 0) in
+    ap (λ (z : List ℕ). number (take value_size z)) whole ∙ ap number (take_all value_size _ (omega (arith, length-append k (replicate (value_size - length k) 0), length-replicate {A = ℕ} (value_size - length k) 0)))
 
 pub power_positive : (i : ℕ) → 0 < 256 ^ i
 power_positive i = one-le-pow i 256 (zero-lt-suc 255)

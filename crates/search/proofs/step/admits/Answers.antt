@@ -1,6 +1,6 @@
 -- The root is entered; a child by the answers with the branching byte added.
 use native.Mathlib.Omega.{arith}
-use mathlib.Core.Path.{◌≡◌, refl, ap, ap₂, ◌∙◌}
+use mathlib.Core.Path.{◌≡◌, ap, ap₂, ◌∙◌}
 use mathlib.Core.Bool.{◌&&◌}
 use mathlib.Core.List.{◌++◌}
 use Prim.Native.Nat.{◌-◌}
@@ -13,34 +13,31 @@ use Rattle.matcher.proofs.Firsts.{first_before}
 use Rattle.matcher.specs.declared.reach.Answer.{Answer}
 use Rattle.rows.specs.Sizes.{path_at}
 use Rattle.trie_read.specs.Shape.{part}
-use Rattle.entries.specs.Query.{asked}
+use Rattle.search.specs.Asks.{asks}
 use Rattle.search.proofs.Steps.{first_less, both_goes, enters_root, enters_value, enters_path, known_front}
 use Rattle.search.proofs.step.admits.Goals as goal
 
-pub returns-then-kind-eq-ROOT : goal.returns-then-kind-eq-ROOT
-returns-then-kind-eq-ROOT c =
+pub returns-then-kind-eq-ROOT-clause-value : goal.returns-then-kind-eq-ROOT-clause-value
+returns-then-kind-eq-ROOT-clause-value c =
     let a = c.args in
-    record { value = (λ f. enters_root (asked a.pattern.now a.low a.high) a.kind a.v a.p a.key.now (part 7 a.path a.t.now) (part a.path a.body a.t.now) c.if-kind-eq-ROOT.true); key_unchanged = refl }
+    λ f. enters_root (asks a.q.now) a.kind a.v a.p a.key.now (part 7 a.path a.t.now) (part a.path a.body a.t.now) c.if-kind-eq-ROOT.true
 
-pub returns-then-kind-eq-VALUE_KIND : goal.returns-then-kind-eq-VALUE_KIND
-returns-then-kind-eq-VALUE_KIND c =
+pub returns-then-kind-eq-VALUE_KIND-clause-value : goal.returns-then-kind-eq-VALUE_KIND-clause-value
+returns-then-kind-eq-VALUE_KIND-clause-value c =
     let a = c.args in
     let pre = c.requires in
     let is = c.if-kind-eq-VALUE_KIND.true in
-    let z : a.v - 0 ≡ a.v = omega arith in
-    let value = (rw z at (c.value_more-value.ensures a.pattern.now)) (λ short. pre.in_common.bytes is (omega (arith, short, length-take-le a.v a.key.now (omega (arith, pre.key_len))))) in
-    let other : FirstBytes (region a.key.now path_at a.p) → a.common.other ≡ reach_of a.pattern.now (region a.key.now path_at a.p) =
-    λ f. rw (eq-eqb a.kind 1 is) at (pre.in_common.other c.if-kind-eq-ROOT.false (λ o. f)) in record {
-      value = (λ f. c.goes_on.ensures
-          ∙ ap goes_on c.both.ensures
-          ∙ both_goes c.value_more-value.result a.common.other
-          ∙ ap₂ (λ (x y : Answer). goes_on x && goes_on y) value (other (first_before (region a.key.now path_at a.p) _ f))
-          ∙ enters_value (asked a.pattern.now a.low a.high) a.kind a.v a.p a.key.now (part 7 a.path a.t.now) (part a.path a.body a.t.now) is);
-      key_unchanged = refl;
-    }
+    let value = c.value_more-value.ensures a.q.now.pattern.now (λ short. pre.in_common.bytes is (omega (arith, short, length-take-le a.v a.key.now (omega (arith, pre.key_len))))) in
+    let other : FirstBytes (region a.key.now path_at a.p) → a.common.other ≡ reach_of a.q.now.pattern.now (region a.key.now path_at a.p) =
+    λ f. rw (eq-eqb a.kind 1 is) at (pre.in_common.other c.if-kind-eq-ROOT.false (λ o. f)) in
+    λ f. c.goes_on.ensures
+    ∙ ap goes_on c.both.ensures
+    ∙ both_goes c.value_more-value.result a.common.other
+    ∙ ap₂ (λ (x y : Answer). goes_on x && goes_on y) value (other (first_before (region a.key.now path_at a.p) _ f))
+    ∙ enters_value (asks a.q.now) a.kind a.v a.p a.key.now (part 7 a.path a.t.now) (part a.path a.body a.t.now) is
 
-pub returns : goal.returns
-returns c =
+pub returns-clause-value : goal.returns-clause-value
+returns-clause-value c =
     let a = c.args in
     let pre = c.requires in
     let g = c.ask_path in
@@ -48,11 +45,15 @@ returns c =
     let branches = c.if-kind-eq-VALUE_KIND.false in
     let other = rw (ne_eqb a.kind 1 branches) at (pre.in_common.other c.if-kind-eq-ROOT.false (λ o. absurd (branches o))) in
     let less : FirstBytes (region a.key.now path_at a.p ++ part a.path a.body a.t.now) → FirstBytes (region a.key.now path_at a.p ++ part a.path end.result a.t.now) =
-    λ f. first_less (region a.key.now path_at a.p) a.t.now a.path end.result a.body end.ensures.1 end.ensures.2 f in record {
-      value = (λ f. c.goes_on-2.ensures
-          ∙ ap goes_on (g.ensures.value (less f))
-          ∙ both_goes a.common.other (reach_of a.pattern.now (region a.key.now path_at a.p ++ part a.path end.result a.t.now))
-          ∙ ap (λ (x : Answer). goes_on x && goes_on (reach_of a.pattern.now (region a.key.now path_at a.p ++ part a.path end.result a.t.now))) other
-          ∙ enters_path (asked a.pattern.now a.low a.high) a.kind a.v a.p a.key.now (part 7 a.path a.t.now) a.t.now a.path a.body end.result pre.key_len.6 c.if-kind-eq-VALUE_KIND.false c.if-kind-eq-ROOT.false pre.key_len.4 end.ensures.0);
-      key_unchanged = known_front a.v a.p a.key.now _ pre.key_len.0 (g.auto.key ∙ pre.key_len.0) pre.key_len.1 g.ensures.key_unchanged;
-    }
+    λ f. first_less (region a.key.now path_at a.p) a.t.now a.path end.result a.body end.ensures.1 end.ensures.2 f in
+    λ f. c.goes_on-2.ensures
+    ∙ ap goes_on (g.ensures.value (less f))
+    ∙ both_goes a.common.other (reach_of a.q.now.pattern.now (region a.key.now path_at a.p ++ part a.path end.result a.t.now))
+    ∙ ap (λ (x : Answer). goes_on x && goes_on (reach_of a.q.now.pattern.now (region a.key.now path_at a.p ++ part a.path end.result a.t.now))) other
+    ∙ enters_path (asks a.q.now) a.kind a.v a.p a.key.now (part 7 a.path a.t.now) a.t.now a.path a.body end.result pre.key_len.6 c.if-kind-eq-VALUE_KIND.false c.if-kind-eq-ROOT.false pre.key_len.4 end.ensures.0
+
+pub returns-clause-key_unchanged : goal.returns-clause-key_unchanged
+returns-clause-key_unchanged c =
+    let a = c.args in
+    let pre = c.requires in
+    known_front a.v a.p a.key.now _ pre.key_len.0 (c.ask_path.auto.key ∙ pre.key_len.0) pre.key_len.1 c.ask_path.ensures.key_unchanged

@@ -5,7 +5,7 @@ use mathlib.Core.Path.{◌≡◌}
 use lib.ListN.{length}
 use Rattle.entries.specs.Slots.{slot_size}
 use Rattle.gather.specs.KeySlots.{known}
-use Rattle.entries.specs.Query.{asked}
+use Rattle.search.specs.Asks.{asks}
 use Rattle.search.specs.Steps.{over}
 use Rattle.search.specs.Searches.{TriesFound, BodyFound}
 use Rattle.search.proofs.Finding.{Finding}
@@ -15,8 +15,8 @@ abbrev pub decreases-walk : goal.decreases-walk
 decreases-walk l = l.depth
 
 abbrev pub invariant-loop-own : goal.invariant-loop-own
-invariant-loop-own l = (l.m + length l.t ≤ l.rows + length l.body) × (l.n + length l.t ≤ l.nodes + length l.body) × (length l.key ≡ slot_size) × (length l.answer ≡ length l.initial.answer)
-    × Finding (BodyFound (asked l.pattern l.low l.high) l.kind l.depth (known l.v l.p l.initial.key) l.body) (TriesFound (asked l.pattern l.low l.high) (over l.kind) l.depth (known l.v l.p l.initial.key) l.t) l.v l.p l.room l.rows l.nodes l.initial.answer l.initial.key l.answer l.key l.m l.n
+invariant-loop-own l = (l.so_far.rows + length l.t ≤ l.fn.found.rows + length l.body) × (l.so_far.nodes + length l.t ≤ l.fn.found.nodes + length l.body) × (length l.key ≡ slot_size) × (length l.answer ≡ length l.initial.answer)
+    × Finding (BodyFound (asks l.q) l.kind l.depth (known l.v l.p l.initial.key) l.body) (TriesFound (asks l.q) (over l.kind) l.depth (known l.v l.p l.initial.key) l.t) l.v l.p l.room l.fn.found.rows l.fn.found.nodes l.initial.answer l.initial.key l.answer l.key l.so_far.rows l.so_far.nodes
 
 abbrev pub decreases-loop-own : goal.decreases-loop-own
 decreases-loop-own l = length l.t

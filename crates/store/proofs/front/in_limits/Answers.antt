@@ -1,52 +1,31 @@
--- Each test as it fails, and the last as it is.
-use mathlib.Core.Path.{◌≡◌, refl}
-use mathlib.Core.Bool.{false, ◌&&◌}
-use Prim.Native.Nat.{ℕ, ◌≤◌, ◌<◌}
-use lib.Dec.{leb}
-use borrow.Author.Tests.{le-leb, lt-leb}
-use Rattle.buffer.proofs.Tests.{and_false}
+-- Two tests let the third decide.
+use mathlib.Core.Path.{◌≡◌, sym, ◌∙◌}
+use mathlib.Core.Bool.{Bool, true, false, ◌&&◌, true≢false}
 use Rattle.book.specs.Front.{in_limits}
+use Rattle.store.proofs.front.in_limits.Goals.{then-is_within, else-is_within}
 use Rattle.store.proofs.front.in_limits.Goals as goal
 
-module _ (m l t : ℕ) where
-  low_m : m < 1 → false ≡ in_limits m l t
-  unfolding in_limits
-  low_m h = rw (lt-leb 1 m h)
+third : (a b c r : Bool) → a ≡ true → b ≡ true → r ≡ c → r ≡ a && b && c
+third a b c r p q e = rw (p, q, e)
 
-  high_m : 4096 < m → false ≡ in_limits m l t
-  unfolding in_limits
-  high_m h = rw (lt-leb m 4096 h, and_false (leb 1 m) false refl)
+second : (a b c r : Bool) → a ≡ true → b ≡ false → r ≡ false → r ≡ a && b && c
+second a b c r p q e = rw (p, q, e)
 
-  low_l : l < 1 → false ≡ in_limits m l t
-  unfolding in_limits
-  low_l h = rw (lt-leb 1 l h, and_false (leb 1 m && leb m 4096) false refl)
+first : (a b c r : Bool) → a ≡ false → r ≡ false → r ≡ a && b && c
+first a b c r p e = rw (p, e)
 
-  high_l : 8 < l → false ≡ in_limits m l t
-  unfolding in_limits
-  high_l h = rw (lt-leb l 8 h, and_false (leb 1 l) false refl, and_false (leb 1 m && leb m 4096) false refl)
+pub returns-then-is_within-2 : goal.returns-then-is_within-2
+unfolding in_limits
+returns-then-is_within-2 c =
+    elim c.if-is_within.branch [
+      | then-is_within w ↦ third _ _ _ _ (sym c.is_within.ensures ∙ w.if-is_within.true) (sym w.is_within-then-is_within.ensures ∙ sym w.value-is ∙ c.if-is_within-2.true) c.is_within-then-is_within-2.ensures
+      | else-is_within w ↦ absurd (true≢false (sym c.if-is_within-2.true ∙ w.value-is ∙ w.if-is_within.false))
+    ]
 
-  low_t : t < 1 → false ≡ in_limits m l t
-  unfolding in_limits
-  low_t h = rw (lt-leb 1 t h, and_false ((leb 1 m && leb m 4096) && (leb 1 l && leb l 8)) false refl)
-
-  all_in : 1 ≤ m → m ≤ 4096 → 1 ≤ l → l ≤ 8 → 1 ≤ t → leb t 100 ≡ in_limits m l t
-  unfolding in_limits
-  all_in a b c d e = rw (le-leb 1 m a, le-leb m 4096 b, le-leb 1 l c, le-leb l 8 d, le-leb 1 t e)
-
-pub returns-then-m-lt1 : goal.returns-then-m-lt1
-returns-then-m-lt1 c = low_m _ _ _ c.if-m-lt1.true
-
-pub returns-then-m-gt-M_LIMIT : goal.returns-then-m-gt-M_LIMIT
-returns-then-m-gt-M_LIMIT c = high_m _ _ _ c.if-m-gt-M_LIMIT.true
-
-pub returns-then-l-lt1 : goal.returns-then-l-lt1
-returns-then-l-lt1 c = low_l _ _ _ c.if-l-lt1.true
-
-pub returns-then-l-gt-L_LIMIT : goal.returns-then-l-gt-L_LIMIT
-returns-then-l-gt-L_LIMIT c = high_l _ _ _ c.if-l-gt-L_LIMIT.true
-
-pub returns-then-tau-lt1 : goal.returns-then-tau-lt1
-returns-then-tau-lt1 c = low_t _ _ _ c.if-tau-lt1.true
-
-pub returns : goal.returns
-returns c = all_in _ _ _ c.if-m-lt1.false c.if-m-gt-M_LIMIT.false c.if-l-lt1.false c.if-l-gt-L_LIMIT.false c.if-tau-lt1.false
+pub returns-else-is_within-2 : goal.returns-else-is_within-2
+unfolding in_limits
+returns-else-is_within-2 c =
+    elim c.if-is_within.branch [
+      | then-is_within w ↦ second _ _ _ _ (sym c.is_within.ensures ∙ w.if-is_within.true) (sym w.is_within-then-is_within.ensures ∙ sym w.value-is ∙ c.if-is_within-2.false) c.if-is_within-2.false
+      | else-is_within w ↦ first _ _ _ _ (sym c.is_within.ensures ∙ w.if-is_within.false) c.if-is_within-2.false
+    ]

@@ -4,17 +4,16 @@ use Rattle.book.proofs.Front.{within}
 use Rattle.store.proofs.Numbers.{refuses_5, refuses_6, accepts}
 use Rattle.store.proofs.setup.prepare.Goals as goal
 
-pub needed-n-requires : goal.needed-n-requires
-needed-n-requires c = let w = within _ _ _ (sym c.in_limits.ensures ∙ c.if-in_limits.true) in (w.m_high, w.l_high)
+pub returns-then-not-in_limits : goal.returns-then-not-in_limits
+returns-then-not-in_limits c = refuses_5 _ _ _ _ (sym c.in_limits.ensures ∙ c.if-not-in_limits.true)
 
-pub returns-then-store-n : goal.returns-then-store-n
-returns-then-store-n c = rw c.plain_reply.ensures (refuses_6 _ _ _ _ _ (sym c.in_limits.ensures ∙ c.if-in_limits.true) c.needed-n.ensures c.if-store-n.true)
+pub invariant_of-front : goal.invariant_of-front
+invariant_of-front c =
+    let w = within c.args.m c.args.l c.args.tau (sym c.in_limits.ensures ∙ c.if-not-in_limits.false) in
+    record { m_high = w.m_high; l_high = w.l_high }
 
-pub write_fresh-requires : goal.write_fresh-requires
-write_fresh-requires c = (sym c.in_limits.ensures ∙ c.if-in_limits.true, c.needed-n.ensures, c.if-store-n.false)
-
-pub returns-then-in_limits : goal.returns-then-in_limits
-returns-then-in_limits c = rw c.plain_reply-then-in_limits.ensures (accepts _ _ _ _ _ _ (sym c.in_limits.ensures ∙ c.if-in_limits.true) c.needed-n.ensures c.if-store-n.false c.write_fresh.ensures)
+pub returns-then-store-needed : goal.returns-then-store-needed
+returns-then-store-needed c = refuses_6 _ _ _ _ _ (sym c.in_limits.ensures ∙ c.if-not-in_limits.false) c.needed.ensures c.if-store-needed.true
 
 pub returns : goal.returns
-returns c = rw c.plain_reply-2.ensures (refuses_5 _ _ _ _ (sym c.in_limits.ensures ∙ c.if-in_limits.false))
+returns c = accepts _ _ _ _ _ _ (sym c.in_limits.ensures ∙ c.if-not-in_limits.false) c.needed.ensures c.if-store-needed.false c.write_fresh.ensures

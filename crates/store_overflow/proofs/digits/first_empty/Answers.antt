@@ -1,16 +1,13 @@
 -- One digit at each turn.
-use borrow.Author.Rules.{rules}
-use Rattle.store_overflow.proofs.Halving.{whole, halved, stopped, none_empty}
+use native.Mathlib.Omega.{arith}
+use Rattle.std.proofs.Common.{below_more}
+use Rattle.book.specs.Digits.{digit}
 use Rattle.store_overflow.proofs.digits.first_empty.Goals as goal
 
-pub loop-j-init : goal.loop-j-init
-loop-j-init c = whole _ _
-
-pub returns-then-rest-eq0 : goal.returns-then-rest-eq0
-returns-then-rest-eq0 c = stopped _ _ _ _ c.loop-j.invariant (search rules) (search rules)
-
 pub loop-j-preserved : goal.loop-j-preserved
-loop-j-preserved c = halved _ _ _ _ c.loop-j.invariant (search rules) (search rules)
+unfolding digit
+loop-j-preserved c = below_more _ _ c.loop-j.invariant (omega arith)
 
-pub returns : goal.returns
-returns c = none_empty _ _ _ _ c.loop-j.invariant (search rules)
+pub returns-then-n-j-eq0 : goal.returns-then-n-j-eq0
+unfolding digit
+returns-then-n-j-eq0 c = (omega arith, c.loop-j.invariant, c.if-n-j-eq0.true)

@@ -1,10 +1,8 @@
--- One digit at each turn.
-use Prim.Native.Nat.{◌-◌, ◌/◌}
-use Rattle.store_overflow.proofs.Halving.{Halved}
+-- All digits so far are 1.
+use mathlib.Core.Path.{◌≡◌}
+use Prim.Native.Nat.{ℕ, ◌<◌}
+use Rattle.book.specs.Digits.{digit}
 use Rattle.store_overflow.proofs.digits.first_empty.Given as goal
 
 abbrev pub invariant-loop-j : goal.invariant-loop-j
-invariant-loop-j l = Halved l.l (l.held / l.m) l.rest l.j
-
-abbrev pub decreases-loop-j : goal.decreases-loop-j
-decreases-loop-j l = l.l - l.j
+invariant-loop-j l = (i : ℕ) → i < l.j → digit i l.n ≡ 1

@@ -2,8 +2,8 @@
 use Rattle.store_overflow.proofs.Overflowing.{overflowed, unchanged}
 use Rattle.store_overflow.proofs.overflow.overflow.Goals as goal
 
-pub returns-then-j-l : goal.returns-then-j-l
-returns-then-j-l c = overflowed _ _ _ _ _ _ _ c.first_empty-j.ensures c.if-j-l.true c.requires.3 c.fill_level.ensures
+pub returns-in-Some : goal.returns-in-Some
+returns-in-Some c = overflowed _ _ _ _ _ _ c.in-Some.j c.in-Some.ensures c.requires.1 c.fill_level.ensures
 
-pub returns-else-j-l : goal.returns-else-j-l
-returns-else-j-l c = unchanged _ _ _ _ _ _ _ c.first_empty-j.ensures c.if-j-l.false
+pub returns-in_default : goal.returns-in_default
+returns-in_default c = unchanged _ _ _ _ _ _ c.in_default.ensures

@@ -1,30 +1,25 @@
 -- The front is read, and then the trie of the level, if there is one.
 use native.Mathlib.Omega.{arith}
-use Rattle.store.proofs.Opening.{opened_within}
-use Rattle.store_read.proofs.Promising.{refuses_4, reads_beyond, reads_listed}
+use Rattle.std.proofs.lemmas.Result.{err_from_is_err_and}
+use Rattle.store_read.proofs.Promising.{refuses_4, reads_beyond, reads_listed, reads_refused}
 use Rattle.store_read.proofs.level.read_level.Goals as goal
 
-pub trie_part-part-requires : goal.trie_part-part-requires
-trie_part-part-requires c =
-    let o = rw c.in-Store.is at c.open.ensures in
-    let w = opened_within _ _ o.0 o.1 in
-    (w.0, w.1, omega (arith, c.if-level-f.true), w.2)
+pub returns-in_err-store : goal.returns-in_err-store
+returns-in_err-store c =
+    let o = c.in_err-store.ensures in
+    let p = err_from_is_err_and c.from_residual.result c.from_residual.ensures.1 in
+    rw (p.1, p.2, o.0) (refuses_4 o.1)
 
-pub slice_bounds-list_records-end : goal.slice_bounds-list_records-end
-slice_bounds-list_records-end c =
-    let o = rw c.in-Store.is at c.open.ensures in
-    let w = opened_within _ _ o.0 o.1 in
-    omega (arith, c.trie_part-part.ensures.within, w.2)
+pub returns-then-level-store : goal.returns-then-level-store
+returns-then-level-store c = let o = c.in_ok-store.ensures in reads_beyond o.1 o.2 _ _ (omega (arith, c.if-level-store.true))
 
-pub returns-then-level-f : goal.returns-then-level-f
-returns-then-level-f c =
-    let o = rw c.in-Store.is at c.open.ensures in
-    reads_listed o.0 o.1 _ _ c.if-level-f.true c.trie_part-part.ensures c.list_records.ensures.listed c.list_records.ensures.result_value
+pub returns-in_err-records : goal.returns-in_err-records
+returns-in_err-records c =
+    let o = c.in_ok-store.ensures in
+    let p = err_from_is_err_and c.from_residual-in_err-records.result c.from_residual-in_err-records.ensures.1 in
+    rw (p.1, p.2) (reads_refused o.1 o.2 _ _ _ c.if-level-store.false (rw o.0 at c.trie-trie.ensures) c.in_err-records.ensures)
 
-pub returns-else-level-f : goal.returns-else-level-f
-returns-else-level-f c =
-    let o = rw c.in-Store.is at c.open.ensures in
-    rw c.plain_reply.ensures (reads_beyond o.0 o.1 _ _ c.if-level-f.false)
-
-pub returns-in-Missing : goal.returns-in-Missing
-returns-in-Missing c = rw c.plain_reply-in-Missing.ensures (refuses_4 (rw c.in-Missing.is at c.open.ensures))
+pub returns : goal.returns
+returns c =
+    let o = c.in_ok-store.ensures in
+    reads_listed o.1 o.2 _ _ _ _ c.if-level-store.false (rw o.0 at c.trie-trie.ensures) c.in_ok-records.ensures

@@ -1,27 +1,31 @@
 -- Each check as it refuses, and then the listing.
-use native.Mathlib.Omega.{arith}
-use Rattle.store.specs.Opening.{OpenedAs}
-use Rattle.store.proofs.Opening.{opened_within}
-use Rattle.store.specs.declared.front.Opened.TheVariants.{Store}
-use Rattle.store_search.proofs.Checks.{fine_pattern, accepted_query, refuses_4, refuses_query, lists}
-use Rattle.store_search.proofs.query.search.Goals.{In-Store}
+use mathlib.Core.Path.{refl}
+use Rattle.std.proofs.lemmas.Result.{err_from_is_err_and}
+use Rattle.entries.specs.Query.{asked}
+use Rattle.store_search.proofs.Checks.{refuses_4, refuses_query, lists, listed_as}
 use Rattle.store_search.proofs.query.search.Goals as goal
 
-opened : (c : In-Store) → OpenedAs c.args.store.now (Store c.in-Store.f)
-opened c = rw c.in-Store.is at c.open.ensures
+pub returns-in_err-store : goal.returns-in_err-store
+returns-in_err-store c =
+    let p = err_from_is_err_and c.from_residual.result c.from_residual.ensures.1 in
+    let o = c.in_err-store.ensures in
+    rw (p.1, p.2, o.0) (refuses_4 o.1)
 
-pub returns-then-refusal-gt0 : goal.returns-then-refusal-gt0
-returns-then-refusal-gt0 c = rw c.plain_reply.ensures (refuses_query _ (opened (goal.at.returns-then-refusal-gt0 c).In-Store).1 c.query_number-refusal.ensures (omega (arith, c.if-refusal-gt0.true)))
+pub returns-in_err-query : goal.returns-in_err-query
+returns-in_err-query c =
+    let p = err_from_is_err_and c.from_residual-in_err-query.result c.from_residual-in_err-query.ensures.1 in
+    let a = c.in_err-query.ensures in
+    rw (p.1, p.2, a.0) (refuses_query _ c.in_ok-store.ensures.2 refl a.1)
 
-pub list_rows-requires : goal.list_rows-requires
-list_rows-requires c =
-    let o = opened (goal.at.list_rows-requires c).In-Store in
-    record { pattern_value = fine_pattern _ (accepted_query _ _ c.query_number-refusal.ensures (omega (arith, c.if-refusal-gt0.false))); m_le_m_limit = opened_within _ _ o.0 o.1 }
+pub returns-in_err-rows : goal.returns-in_err-rows
+returns-in_err-rows c =
+    let p = err_from_is_err_and c.from_residual-in_err-rows.result c.from_residual-in_err-rows.ensures.1 in
+    let o = c.in_ok-store.ensures in
+    let a = c.in_ok-query.ensures in
+    rw (p.1, p.2) (lists o.1 o.2 a.1 (listed_as a.0 o.0 c.in_err-rows.ensures))
 
-pub returns-else-refusal-gt0 : goal.returns-else-refusal-gt0
-returns-else-refusal-gt0 c =
-    let o = opened (goal.at.returns-else-refusal-gt0 c).In-Store in
-    lists o.0 o.1 (accepted_query _ _ c.query_number-refusal.ensures c.if-refusal-gt0.false) c.list_rows.ensures
-
-pub returns-in-Missing : goal.returns-in-Missing
-returns-in-Missing c = rw c.plain_reply-in-Missing.ensures (refuses_4 (rw c.in-Missing.is at c.open.ensures))
+pub returns : goal.returns
+returns c =
+    let o = c.in_ok-store.ensures in
+    let a = c.in_ok-query.ensures in
+    lists o.1 o.2 a.1 (listed_as a.0 o.0 c.in_ok-rows.ensures)

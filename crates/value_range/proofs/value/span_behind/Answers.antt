@@ -6,4 +6,4 @@ use Rattle.value_range.proofs.value.span_behind.Goals as goal
 pub returns : goal.returns
 returns c =
     let a = c.args in
-    λ pattern. spans (asked pattern a.low a.high) a.known.now a.n _ _ c.requires (rw c.lowest.ensures at c.steps.ensures)
+    λ pattern. spans (asked pattern a.range.from a.range.to) a.known.now a.n _ _ c.requires (rw c.lowest.ensures at c.steps.ensures)
