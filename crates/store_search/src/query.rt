@@ -50,7 +50,13 @@ pub fn search(
     ensures { Searches (asked pattern.now low high) store.now answer.old answer.new (said found_said result) }
 {
     let store = Store::open(store)?;
-    let query = check(pattern, Span { from: low, to: high })?;
+    let query = check(
+        pattern,
+        Span {
+            from: low,
+            to: high,
+        },
+    )?;
     let (rows, nodes) = list(&Search { store, query }, store.front.held, answer)?;
     Ok(Found { rows, nodes })
 }

@@ -1,6 +1,5 @@
 -- The form of the pattern, then the range.
 use mathlib.Core.Path.{refl}
-use native.Mathlib.Omega.{arith}
 use Rattle.std.proofs.lemmas.Result.{err_from_is_err_and}
 use Rattle.entries.specs.Query.{asked}
 use Rattle.store_search.proofs.Checks.{pattern_said, range_said, query_fine, fine_pattern}

@@ -1,7 +1,6 @@
 -- Each check as it refuses, and then the listing.
 use mathlib.Core.Path.{refl}
 use Rattle.std.proofs.lemmas.Result.{err_from_is_err_and}
-use Rattle.entries.specs.Query.{asked}
 use Rattle.store_search.proofs.Checks.{refuses_4, refuses_query, lists, listed_as}
 use Rattle.store_search.proofs.query.search.Goals as goal
 
