@@ -1,6 +1,6 @@
 -- The first node of what is left lies in it; entered or not, the walk goes on behind it.
 use native.Mathlib.Omega.{arith}
-use mathlib.Core.Path.{refl, sym, ◌∙◌}
+use mathlib.Core.Path.{refl, ◌∙◌}
 use Rattle.search.proofs.Steps.{common_kept}
 use Rattle.search.proofs.Finding.{finding_from, finding_end}
 use Rattle.search.proofs.Siblings.{tries_end, tries_bad, siblings_in, siblings_done, siblings_past, body_suffixes, body_low}
