@@ -14,8 +14,8 @@ use Rattle.trie_theory.specs.Dimensions.{root}
 use Rattle.trie_theory.specs.Sound.{Sound, Wide}
 use Rattle.trie_theory.specs.Encode.{Regular, WholeReference, encode, node_bytes, suffix_bytes}
 use Rattle.trie_theory.proofs.SoundLaws.{root_single}
-use Rattle.trie_read.specs.Heads.{front, node_head}
-use Rattle.trie_read.proofs.Node.{node_is, length_own, head_at, head_node}
+use Rattle.trie_read.specs.Heads.{front}
+use Rattle.trie_read.proofs.Node.{node_is, length_own, front_numbers}
 
 -- the end and the length of the body that the code reads
 abbrev pub body_at : List ℕ → ℕ
@@ -34,10 +34,9 @@ node_root : (kind : ℕ) (s : Strings) (body rest : List ℕ) → length s ≡ 2
     → (ends (node_bytes kind s body ++ rest) ≡ length (node_bytes kind s body)) × (body_at (node_bytes kind s body ++ rest) ≡ length body)
 node_root kind s body rest w =
     let t = front kind s (length body) ++ (body ++ rest) in
-    let is : head_at t ≡ node_head kind s body = head_node kind s body (body ++ rest) in
-    let start : 7 + get_or t 1 0 + get_or t 2 0 ≡ 7 + length (at 0 s) + length (at 1 s) = cc in
-    let next : ends t ≡ 7 + length (at 0 s) + length (at 1 s) + length body = cc in
-    rw (length_own kind s body w, node_is kind s body rest w) (next, omega arith)
+    let n = front_numbers kind s body (body ++ rest) in
+    let next : ends t ≡ 7 + length (at 0 s) + length (at 1 s) + length body = rw (n.value_is, n.path_is, n.body_is) refl in
+    rw (length_own kind s body w, node_is kind s body rest w) (next, n.body_is)
 
 some_suffixes : (ts : List Key) → 1 ≤ length ts → All (λ t. Wide 2 t × WholeReference t) ts → 1 ≤ length (flat (map suffix_bytes ts))
 unfolding flat suffix_bytes

@@ -28,7 +28,7 @@ pub(crate) fn add_small(store: &mut [u8], front: Front, used: usize, key: &Key<'
             0,
             used,
             used,
-            0,
+            None,
             NODE_LIMIT,
             key.value,
             key.path,

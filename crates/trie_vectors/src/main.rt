@@ -12,11 +12,10 @@
 ghost use Rattle.std.specs.Prelude.{◌≡◌, ◌+◌, ◌≤◌, ◌<◌, length};
 ghost use Rattle.buffer.specs.Sizes.{four_byte_limit};
 ghost use Rattle.rows.specs.Sizes.{reference_size};
-ghost use Rattle.logline.specs.Sizes.{reference_digits};
 
 use console::Console;
 use logline::command::Command;
-use rows::sizes::{NODE_LIMIT, PATH_LIMIT, REFERENCE_SIZE, VALUE_SIZE};
+use rows::sizes::{NODE_LIMIT, PATH_LIMIT, VALUE_SIZE};
 use std::io;
 use trie_read::head::{Malformed, Node, read_head};
 use trie_read::kind::{Dimension, Kind};
@@ -195,47 +194,20 @@ fn apply(
     grow(console, s, used, &v, &p[0..end], reference)
 }
 
-fn apply_line(
-    console: &mut Console,
-    s: &mut [u8],
-    used: usize,
-    asks: bool,
-    line: &[u8],
-    value: u64,
-    at: usize,
-    path: usize,
-) -> usize
-    requires { (used ≤ length s.old) × (length s.old < four_byte_limit) × (at + reference_digits ≤ length line.now) }
-    ensures { result ≤ length s.new }
-{
-    let mut reference = [0u8; REFERENCE_SIZE];
-    logline::fields::reference(line, at, &mut reference);
-    apply(
-        console,
-        s,
-        used,
-        asks,
-        value,
-        logline::reader::rest_at(line, path),
-        &reference,
-    )
-}
-
 fn read_line(console: &mut Console, s: &mut [u8], used: usize, asks: bool, line: &[u8]) -> usize
     requires { (used ≤ length s.old) × (length s.old < four_byte_limit) }
     ensures { result ≤ length s.new }
 {
-    let command = logline::reader::parse(line);
-    let Command::Add {
+    let Some(Command::Add {
         value,
         reference,
         path,
-    } = command
+    }) = logline::reader::parse(line)
     else {
         console.print(b"misread\n");
         return used;
     };
-    apply_line(console, s, used, asks, line, value, reference, path)
+    apply(console, s, used, asks, value, path, &reference)
 }
 
 fn print_title(console: &mut Console, line: &[u8]) {
