@@ -2,21 +2,20 @@
 -- for each part. Assumes nothing.
 use mathlib.Core.Path.{◌≡◌, refl, sym, ap, ◌∙◌}
 use mathlib.Core.Bool.{true}
-use mathlib.Core.Option.{Option, none, some}
-use Prim.Native.Nat.{ℕ, zero, suc, ◌+◌, ◌*◌, ◌-◌, ◌≤◌, ◌<◌}
+use mathlib.Core.Option.{some}
+use Prim.Native.Nat.{ℕ, zero, suc, ◌+◌, ◌-◌, ◌≤◌, ◌<◌}
 use mathlib.Core.List.{List, [], ◌∷◌, ◌++◌, map, append_assoc}
 use native.Mathlib.Omega.{arith}
 use lib.ListN.{length, get_or, take, drop, length-append, length-drop}
 use lib.Dec.{eqb}
 use lib.Seq.{length-take-le}
-use Rattle.buffer.specs.Lists.{all, All, nil, flat}
+use Rattle.buffer.specs.Lists.{All, nil}
 use Rattle.buffer.specs.Numbers.{bytes_of}
 use Rattle.buffer.specs.Sizes.{four_byte_limit}
 use Rattle.buffer.specs.Splice.{splice}
 use Rattle.buffer.proofs.Lists.{all_imp, all_pick, all_append, all_test, all_tested}
 use Rattle.buffer.proofs.Digits.{length_bytes_of}
 use Rattle.buffer.proofs.Splice.{length_splice, splice_then, splice_inside}
-use Rattle.rows.specs.Sizes.{length_at}
 use Rattle.entries.specs.Slots.{slot_size, slot_key, short_path}
 use Rattle.trie_theory.specs.Forest.{Key}
 use Rattle.trie_theory.specs.Strings.{at}
@@ -35,7 +34,7 @@ use Rattle.trie_read.specs.declared.kind.Dimension.TheVariants.{Value, Path, Oth
 use Rattle.trie_read.specs.declared.kind.Kind.{Kind}
 use Rattle.trie_read.specs.declared.kind.Kind.TheVariants.{Leaf, Inner}
 use Rattle.trie_read.proofs.Node.{length_front}
-use Rattle.trie_sets.specs.Positions.{slot_byte, OfTwo}
+use Rattle.trie_sets.specs.Positions.{OfTwo}
 use Rattle.trie_sets.specs.Partition.{by_bytes, with_byte}
 use Rattle.trie_sets.proofs.Sets.{nth}
 use Rattle.trie_sets.proofs.Splitting.{path_short}

@@ -6,14 +6,13 @@ use Prim.Native.Nat.{ℕ, suc, ◌+◌, ◌-◌, ◌≤◌, ◌<◌}
 use mathlib.Core.List.{List, [], ◌∷◌, ◌++◌, map}
 use native.Mathlib.Omega.{arith}
 use native.Mathlib.Nat.{zero-add}
-use lib.ListN.{length, get_or, drop, length-append, length-drop}
+use lib.ListN.{length, drop, length-append, length-drop}
 use lib.Seq.{ext_get_or, get_or-drop}
 use Rattle.buffer.specs.Lists.{all}
 use Rattle.buffer.specs.Splice.{region}
 use Rattle.buffer.proofs.Lists.{all_imp}
 use Rattle.buffer.proofs.Splice.{length_region}
-use Rattle.rows.specs.Sizes.{value_size, length_at, path_at}
-use Rattle.matcher.specs.Bytes.{path_limit}
+use Rattle.rows.specs.Sizes.{length_at, path_at}
 use Rattle.entries.specs.Slots.{slot_size, slot_key, short_path}
 use Rattle.trie_theory.specs.Forest.{Key}
 use Rattle.trie_theory.specs.Strings.{at}

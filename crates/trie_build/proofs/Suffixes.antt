@@ -4,7 +4,7 @@ use Prim.Native.Nat.{ℕ, ◌+◌, ◌-◌, ◌≤◌}
 use mathlib.Core.List.{List, [], ◌∷◌, ◌++◌, append-nil}
 use native.Mathlib.Omega.{arith}
 use native.Mathlib.Nat.{zero-add}
-use lib.ListN.{length, get_or, take, drop, length-append}
+use lib.ListN.{length, get_or, drop, length-append}
 use lib.Seq.{drop-drop}
 use Rattle.buffer.specs.Lists.{flat}
 use Rattle.buffer.specs.Splice.{region}
@@ -12,7 +12,6 @@ use Rattle.buffer.proofs.Splice.{length_region}
 use Rattle.rows.specs.Sizes.{value_size, reference_size, reference_at, length_at, path_at}
 use Rattle.entries.specs.Slots.{slot_size, slot_key}
 use Rattle.trie_theory.specs.Forest.{Key}
-use Rattle.trie_theory.specs.Strings.{at}
 use Rattle.trie_theory.specs.Encode.{suffix_bytes}
 use Rattle.trie_read.specs.Shape.{key_of}
 use Rattle.trie_build.specs.Nodes.{rest, Behind}

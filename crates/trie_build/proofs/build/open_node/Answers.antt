@@ -1,8 +1,7 @@
 -- The split of the set, and its strings written.
 use native.Mathlib.Omega.{arith}
-use Prim.Native.Nat.{◌+◌, ◌-◌}
-use mathlib.Core.Path.{◌≡◌, ◌∙◌}
-use lib.ListN.{length, drop, length-drop}
+use mathlib.Core.Path.{◌∙◌}
+use lib.ListN.{length-drop}
 use mathlib.Core.List.{map}
 use Rattle.entries.specs.Slots.{slot_key}
 use Rattle.trie_theory.specs.Strings.{at}

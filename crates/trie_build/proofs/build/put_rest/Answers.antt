@@ -1,8 +1,8 @@
 -- What remains of the key's strings are stretches of the slot.
 use native.Mathlib.Omega.{arith}
 use Prim.Native.Nat.{◌+◌, ◌-◌}
-use mathlib.Core.Path.{◌≡◌, ◌∙◌}
-use lib.ListN.{get_or, length}
+use mathlib.Core.Path.{◌≡◌}
+use lib.ListN.{get_or}
 use Rattle.rows.specs.Sizes.{length_at}
 use Rattle.trie_build.proofs.Suffixes as law
 use Rattle.trie_build.proofs.build.put_rest.Goals as goal

@@ -1,7 +1,7 @@
 -- Suffix by suffix.
 use native.Mathlib.Omega.{arith}
 use Prim.Native.Nat.{◌+◌, ◌≤◌}
-use mathlib.Core.Path.{◌≡◌, ◌∙◌}
+use mathlib.Core.Path.{◌∙◌}
 use mathlib.Core.List.{[]}
 use lib.ListN.{length, get_or, drop}
 use Rattle.trie_sets.proofs.Slotted.{chunks_slots}
