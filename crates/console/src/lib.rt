@@ -66,6 +66,7 @@ impl Console {
         ensures { result ≤ length buf.new }
     {
         let mut done: usize = 0;
+        // No `for`: a turn goes on by what a read gave.
         while done < buf.len() {
             let n = self.read(&mut buf[done..]);
             if n == 0 {

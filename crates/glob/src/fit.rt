@@ -26,7 +26,8 @@ impl Trial {
     }
 }
 
-// How many bytes do a label of a pattern, before its first `*`, and a label begin alike with?
+// How many bytes do a label of a pattern, before its first `*`, and a label begin alike with? By indices: of `zip().take_while(..).count()`, as fast, the
+// closure's two tests leave a goal that did not close.
 fn alike(p: &[u8], s: &[u8]) -> usize
     ensures { Alike p.now s.now result }
 {
@@ -83,6 +84,7 @@ fn after_star(p: &[u8], s: &[u8]) -> Trial
         return Trial::Fits; // a last `*` takes all bytes that are left
     }
     let mut i = next_try(p, s, 0);
+    // No `for`: a turn goes on to the next place that may fit, not to the next byte.
     while i <= s.len() {
         match label(p, &s[i..]) {
             Trial::Fits => return Trial::Fits,
@@ -228,6 +230,7 @@ fn descend(pattern: &[u8], path: &[u8]) -> Trial
         return try_last(&pattern[1..], path);
     }
     let mut b = next_begin(pattern, path, 0);
+    // No `for`, as in `after_star`.
     while b <= path.len() {
         match labels(pattern, &path[b..]) {
             Trial::Fits => return Trial::Fits,

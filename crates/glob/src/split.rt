@@ -41,7 +41,7 @@ pub(crate) fn last_label(s: &[u8]) -> usize
     }
 }
 
-// How many labels are there: how many `/`?
+// How many labels are there: how many `/`? `filter(..).count()` takes twice as long here.
 pub fn label_count(s: &[u8]) -> usize
     ensures { result ≡ length (labels_of s.now) }
 {

@@ -24,6 +24,7 @@ pub fn literal_prefix(pattern: &[u8]) -> usize
         return 0;
     }
     let mut a = 0;
+    // No `for`: a turn takes a label.
     while a < pattern.len() {
         if ENOUGH <= a {
             return a; // enough

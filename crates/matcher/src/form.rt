@@ -17,7 +17,8 @@ pub enum FormError {
     Malformed,
 }
 
-// The number of document 01 for a path, and for a pattern, of this form: 0 where it is fine.
+// The number of document 01 for a path, and for a pattern, of this form: 0 where it is fine. Two tables that share no number are plainer than one with a
+// parameter.
 pub fn path_number(form: Result<(), FormError>) -> u64
     ensures { result ≡ path_number form }
 {
@@ -84,6 +85,7 @@ fn are_pattern_labels(pattern: &[u8]) -> bool
     ensures { result ≡ all pattern_label (labels_of pattern.now) }
 {
     let mut a = 0;
+    // No `for`: a turn takes a label.
     while a < pattern.len() {
         let b = next_slash(pattern, a + 1);
         if !is_pattern_label(&pattern[a + 1..b]) {

@@ -47,6 +47,7 @@ pub(crate) fn are_apart(s: &[u8], mark: u8) -> bool
     ensures { result ≡ apart mark s.now }
 {
     let mut i = 0;
+    // No `for`: a turn takes up to five bytes.
     while i < s.len() {
         let end = label_end(s, i);
         if !may_stand(s, end, mark) {
