@@ -1,7 +1,9 @@
 -- Comparing strings byte by byte: what is left to compare after i equal bytes. Assumes nothing.
 use mathlib.Core.Path.{◌≡◌, refl, ap}
 use mathlib.Core.Bool.{Bool, true, false, cond, ◌&&◌}
-use Prim.Native.Nat.{ℕ, suc, ◌+◌, ◌≤◌, ◌<◌}
+use Prim.Native.Nat.{ℕ, suc, ◌+◌, ◌≤◌, ◌<◌, min}
+use mathlib.Core.Logic.{⊎_elim}
+use Rattle.std.proofs.lemmas.Bool.{cases_lt}
 use mathlib.Core.List.{List, [], ◌∷◌}
 use native.Mathlib.Omega.{arith}
 use native.Mathlib.Numerals.{add-one}
@@ -64,6 +66,10 @@ common_short s t i h = rw (drop_of_length-le t h) (nothing (drop i s))
     nothing : (u : List ℕ) → length (common u []) ≡ 0
     nothing [] = refl
     nothing (x ∷ u) = refl
+
+pub common_end : (s t : List ℕ) (i : ℕ) → min (length s) (length t) ≤ i → length (common (drop i s) (drop i t)) ≡ 0
+common_end s t i h =
+    ⊎_elim (λ (z : i < length s). common_short s t i (grind arith)) (λ (z : length s ≤ i). common_none s t i z) (cases_lt i (length s))
 
 module _ (s t : List ℕ) (i : ℕ) (ins : i < length s) (int : i < length t) where
   pub common_on : get_or s i 0 ≡ get_or t i 0 → length (common (drop i s) (drop i t)) ≡ suc (length (common (drop (i + 1) s) (drop (i + 1) t)))

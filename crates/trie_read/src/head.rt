@@ -1,6 +1,5 @@
 // Reading the first node of some bytes.
-ghost use Rattle.std.specs.Prelude.{◌≡◌, ◌<◌, length, Ok, IfSome, option_map};
-ghost use Rattle.buffer.specs.Sizes.{four_byte_limit};
+ghost use Rattle.std.specs.Prelude.{◌≡◌, Ok, IfSome, option_map};
 ghost use Rattle.trie_theory.specs.Forest.{Forest};
 ghost use Rattle.trie_theory.specs.Encode.{Regular, encode};
 ghost use Rattle.trie_read.specs.Heads.{head_of, head_in, head_told, InBytes, Stands};
@@ -20,18 +19,6 @@ pub struct Node<'a> {
     pub path: &'a [u8],
     pub body: &'a [u8],
     pub rest: &'a [u8],
-}
-
-pub fn wide(b: u8) -> usize
-    ensures { (result ≡ b) × (result < 256) }
-{
-    b as usize
-}
-
-pub fn wide32(x: u32) -> usize
-    ensures { (result ≡ x) × (result < four_byte_limit) }
-{
-    x as usize
 }
 
 // The first of tries side by side; `Ok(None)` where there are no bytes.

@@ -13,17 +13,13 @@ pub const NO_BYTE: u16 = 256;
 pub fn common_length(a: &[u8], b: &[u8]) -> usize
     ensures { (result ≡ length (common a.now b.now)) × (result ≤ length a.now) × (result ≤ length b.now) }
 {
-    let mut i: usize = 0;
-    while i < a.len() {
-        if i == b.len() {
-            return i;
-        }
+    let n = a.len().min(b.len());
+    for i in 0..n {
         if a[i] != b[i] {
             return i;
         }
-        i += 1;
     }
-    i
+    n
 }
 
 // The first byte, or NO_BYTE.

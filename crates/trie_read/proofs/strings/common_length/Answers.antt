@@ -1,13 +1,7 @@
 -- After i equal bytes, what is left adds the rest.
 use native.Mathlib.Omega.{arith}
-use Rattle.trie_read.proofs.Compare.{common_none, common_short, common_on, common_off}
+use Rattle.trie_read.proofs.Compare.{common_end, common_on, common_off}
 use Rattle.trie_read.proofs.strings.common_length.Goals as goal
-
-pub returns-then-i-b : goal.returns-then-i-b
-returns-then-i-b c =
-    let a = c.args in
-    let l = c.loop-i in
-    omega (arith, common_short a.a.now a.b.now l.i (omega arith))
 
 pub returns-then-a-i : goal.returns-then-a-i
 returns-then-a-i c =
@@ -25,4 +19,4 @@ pub returns : goal.returns
 returns c =
     let a = c.args in
     let l = c.loop-i in
-    omega (arith, common_none a.a.now a.b.now l.i (omega arith))
+    omega (arith, common_end a.a.now a.b.now l.i (grind arith))
