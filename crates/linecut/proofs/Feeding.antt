@@ -13,8 +13,8 @@ use Rattle.buffer.specs.Lists.{none}
 use Rattle.buffer.proofs.Splice.{set_splice}
 use Rattle.linecut.specs.Input.{lines_from, lines_of, Given, given, begun_after, on_byte, on_end, Holds, told, Within, event_of, Fed, Runs, pushed_event, pushed_len, pushed_buffer, PushedAs, finished_event}
 use Rattle.linecut.specs.Input.Runs.{finishes, pushes}
-use Rattle.linecut.specs.declared.lines.Event.{Event}
-use Rattle.linecut.specs.declared.lines.Event.TheVariants.{Nothing, Line, Long}
+use Rattle.std.proofs.Common.{Some, None}
+use Rattle.linecut.specs.declared.lines.Cut.TheVariants.{Line, Long}
 
 -- ---- what is fed is handed over line by line
 
@@ -51,7 +51,7 @@ by_length {P} n f g = go (leb n 512) refl
     go false e = g (leb-false n 512 e)
 
 module _ (len : ℕ) (buf begun : List ℕ) (h : Holds len buf begun) where
-  pub ended_tells : told (event_of len) buf ≡ given begun ∷ []
+  pub ended_tells : told (Some (event_of len)) buf ≡ given begun ∷ []
   unfolding given event_of
   ended_tells = by_length (length begun)
       (λ k. rw (le-leb (length begun) 512 k, (h.fits k).0, le-leb (length begun) 512 k, ← (h.fits k).0, (h.fits k).1))
@@ -66,7 +66,7 @@ module _ (len : ℕ) (buf begun : List ℕ) (h : Holds len buf begun) where
       none_begun [] e = refl
       none_begun (x ∷ l) e = absurd (omega arith)
 
-  pub end_line : (len ≡ 0 → ⊥) → told (event_of len) buf ≡ on_end begun
+  pub end_line : (len ≡ 0 → ⊥) → told (Some (event_of len)) buf ≡ on_end begun
   unfolding on_end
   end_line ne = ended_tells ∙ some_begun begun (λ e. by_length (length begun) (λ k. ne ((h.fits k).0 ∙ e)) (λ k. absurd (omega arith)))
     where
@@ -75,11 +75,11 @@ module _ (len : ℕ) (buf begun : List ℕ) (h : Holds len buf begun) where
       some_begun (x ∷ l) n = refl
 
   -- a byte: the end of the line, one byte more, or one too many
-  pub push_end : (b : ℕ) → b ≡ 10 → Fed begun b (event_of len) 0 buf
+  pub push_end : (b : ℕ) → b ≡ 10 → Fed begun b (Some (event_of len)) 0 buf
   unfolding on_byte begun_after
   push_end b e = record { tells = rw (eq-eqb b 10 e) ended_tells; holds = rw (eq-eqb b 10 e) (holds_start buf h.room) }
 
-  pub push_more : (b : ℕ) → (b ≡ 10 → ⊥) → len < 512 → Fed begun b Nothing (len + 1) (set buf len b)
+  pub push_more : (b : ℕ) → (b ≡ 10 → ⊥) → len < 512 → Fed begun b None (len + 1) (set buf len b)
   unfolding on_byte begun_after
   push_more b ne k =
       let f : (len ≡ length begun) × (take len buf ≡ begun) = by_length (length begun) h.fits (λ o. absurd (omega (arith, h.over o))) in
@@ -91,7 +91,7 @@ module _ (len : ℕ) (buf begun : List ℕ) (h : Holds len buf begun) where
         holds = rw (ne_eqb b 10 ne) (record { room = length-set buf len b ∙ h.room; fits = λ _. (sym n, t); over = λ o. absurd (omega arith) });
       }
 
-  pub push_over : (b : ℕ) → (b ≡ 10 → ⊥) → 512 ≤ len → Fed begun b Nothing 513 buf
+  pub push_over : (b : ℕ) → (b ≡ 10 → ⊥) → 512 ≤ len → Fed begun b None 513 buf
   unfolding on_byte begun_after
   push_over b ne k =
       let l : 512 ≤ length begun = by_length (length begun) (λ s. omega (arith, (h.fits s).0)) (λ o. omega arith) in
@@ -100,14 +100,6 @@ module _ (len : ℕ) (buf begun : List ℕ) (h : Holds len buf begun) where
         tells = rw (ne_eqb b 10 ne);
         holds = rw (ne_eqb b 10 ne) (record { room = h.room; fits = λ s. absurd (omega arith); over = λ _. refl });
       }
-
-pub event_line : (len : ℕ) → len ≤ 512 → event_of len ≡ Line len
-unfolding event_of
-event_line len h = rw (le-leb len 512 h)
-
-pub event_long : (len : ℕ) → 512 < len → event_of len ≡ Long
-unfolding event_of
-event_long len h = rw (lt-leb len 512 h)
 
 -- ---- the theorem: a run from the start, on whatever buffer, tells exactly the lines of its input
 
@@ -124,12 +116,12 @@ runs_lines buf input out h r = runs_fed r [] (holds_start buf h) ∙ fed_lines i
 -- ---- what is answered for any state
 
 module _ (len b : ℕ) (buf : List ℕ) where
-  pub as_end : (event : Event) → event ≡ event_of len → b ≡ 10 → PushedAs len buf b event 0 buf
+  pub as_end : b ≡ 10 → PushedAs len buf b (Some (event_of len)) 0 buf
   unfolding pushed_event pushed_len pushed_buffer
-  as_end event q e =
-      record { event_is = rw (eq-eqb b 10 e) q; next_is = rw (eq-eqb b 10 e); after_is = rw (eq-eqb b 10 e) }
+  as_end e =
+      record { event_is = rw (eq-eqb b 10 e); next_is = rw (eq-eqb b 10 e); after_is = rw (eq-eqb b 10 e) }
 
-  pub as_more : (b ≡ 10 → ⊥) → len < 512 → length buf ≡ 512 → PushedAs len buf b Nothing (len + 1) (set buf len b)
+  pub as_more : (b ≡ 10 → ⊥) → len < 512 → length buf ≡ 512 → PushedAs len buf b None (len + 1) (set buf len b)
   unfolding pushed_event pushed_len pushed_buffer
   as_more n l r =
       record {
@@ -138,26 +130,26 @@ module _ (len b : ℕ) (buf : List ℕ) where
         after_is = rw (ne_eqb b 10 n, lt-ltb len 512 l) (set_splice buf len b (omega arith));
       }
 
-  pub as_over : (b ≡ 10 → ⊥) → 512 ≤ len → PushedAs len buf b Nothing 513 buf
+  pub as_over : (b ≡ 10 → ⊥) → 512 ≤ len → PushedAs len buf b None 513 buf
   unfolding pushed_event pushed_len pushed_buffer
   as_over n l =
       record { event_is = rw (ne_eqb b 10 n); next_is = rw (ne_eqb b 10 n, le-ltb len 512 l); after_is = rw (ne_eqb b 10 n, le-ltb len 512 l) }
 
-pub finished_none : (len : ℕ) → len ≡ 0 → Nothing ≡ finished_event len
+pub finished_none : (len : ℕ) → len ≡ 0 → None ≡ finished_event len
 unfolding finished_event
 finished_none len e = rw (eq-eqb len 0 e)
 
-pub finished_line : (len : ℕ) → (len ≡ 0 → ⊥) → event_of len ≡ finished_event len
+pub finished_line : (len : ℕ) → (len ≡ 0 → ⊥) → Some (event_of len) ≡ finished_event len
 unfolding finished_event
 finished_line len n = rw (ne_eqb len 0 n)
 
 -- a line that is told of is in the buffer
 module _ (len size : ℕ) (h : size ≡ 512) where
-  event_within : Within (event_of len) size
+  event_within : Within (Some (event_of len)) size
   unfolding event_of
   event_within = go (leb len 512) refl
     where
-      go : (t : Bool) → leb len 512 ≡ t → Within (cond t (Line len) Long) size
+      go : (t : Bool) → leb len 512 ≡ t → Within (Some (cond t (Line len) Long)) size
       go true e = omega (arith, leb-true len 512 e)
       go false e = tt
 
@@ -165,7 +157,7 @@ module _ (len size : ℕ) (h : size ≡ 512) where
   unfolding pushed_event
   pushed_within b = go (eqb b 10)
     where
-      go : (t : Bool) → Within (cond t (event_of len) Nothing) size
+      go : (t : Bool) → Within (cond t (Some (event_of len)) None) size
       go true = event_within
       go false = tt
 
@@ -173,6 +165,6 @@ module _ (len size : ℕ) (h : size ≡ 512) where
   unfolding finished_event
   finished_within = go (eqb len 0)
     where
-      go : (t : Bool) → Within (cond t Nothing (event_of len)) size
+      go : (t : Bool) → Within (cond t None (Some (event_of len))) size
       go true = tt
       go false = event_within

@@ -1,11 +1,11 @@
 -- The lines of an input (document 01, `fieldlog`): each ends with byte 0A hex, the last one may lack it, and nothing after a final 0A is no
 -- line. A line over 512 bytes is handed over as too long, without its bytes. Assumes nothing: these are definitions.
-use Rattle.std.specs.Prelude.{ℕ, ◌+◌, ◌≤◌, ◌<◌, ◌≡◌, List, [], ◌∷◌, ◌++◌, cond, length, take, leb, ltb, eqb}
+use Rattle.std.specs.Prelude.{ℕ, ◌+◌, ◌≤◌, ◌<◌, ◌≡◌, List, [], ◌∷◌, ◌++◌, Option, Some, None, cond, length, take, leb, ltb, eqb}
 use Rattle.linecut.specs.Sizes.{line_limit}
 use Rattle.buffer.specs.Lists.{none}
 use Rattle.buffer.specs.Splice.{splice}
-use Rattle.linecut.specs.declared.lines.Event.{Event}
-use Rattle.linecut.specs.declared.lines.Event.TheVariants.{Nothing, Line, Long}
+use Rattle.linecut.specs.declared.lines.Cut.{Cut}
+use Rattle.linecut.specs.declared.lines.Cut.TheVariants.{Line, Long}
 
 -- the lines of an input whose first line has begun with these bytes
 unfoldable pub lines_from : List ℕ → List ℕ → List (List ℕ)
@@ -41,13 +41,13 @@ pub record Holds (len : ℕ) (buf begun : List ℕ) : Type 0 where
   pub fits : length begun ≤ line_limit → (len ≡ length begun) × (take len buf ≡ begun)
   pub over : line_limit < length begun → len ≡ line_limit + 1
 
--- the event of a line that ends with so many bytes counted
-unfoldable pub event_of : ℕ → Event
+-- how a line is cut off that ends with so many bytes counted
+unfoldable pub event_of : ℕ → Cut
 event_of len = cond (leb len line_limit) (Line len) Long
 
 -- what `push` answers, counts then and leaves in the buffer, and what `finish` answers, for any state
-unfoldable pub pushed_event : ℕ → ℕ → Event
-pushed_event len b = cond (eqb b 10) (event_of len) Nothing
+unfoldable pub pushed_event : ℕ → ℕ → Option Cut
+pushed_event len b = cond (eqb b 10) (Some (event_of len)) None
 
 unfoldable pub pushed_len : ℕ → ℕ → ℕ
 pushed_len len b = cond (eqb b 10) 0 (cond (ltb len line_limit) (len + 1) (line_limit + 1))
@@ -55,34 +55,34 @@ pushed_len len b = cond (eqb b 10) 0 (cond (ltb len line_limit) (len + 1) (line_
 unfoldable pub pushed_buffer : ℕ → List ℕ → ℕ → List ℕ
 pushed_buffer len buf b = cond (eqb b 10) buf (cond (ltb len line_limit) (splice buf len (b ∷ [])) buf)
 
-unfoldable pub finished_event : ℕ → Event
-finished_event len = cond (eqb len 0) Nothing (event_of len)
+unfoldable pub finished_event : ℕ → Option Cut
+finished_event len = cond (eqb len 0) None (Some (event_of len))
 
-pub record PushedAs (len : ℕ) (buf : List ℕ) (b : ℕ) (event : Event) (next : ℕ) (after : List ℕ) : Type 0 where
+pub record PushedAs (len : ℕ) (buf : List ℕ) (b : ℕ) (event : Option Cut) (next : ℕ) (after : List ℕ) : Type 0 where
   pub event_is : event ≡ pushed_event len b
   pub next_is : next ≡ pushed_len len b
   pub after_is : after ≡ pushed_buffer len buf b
 
--- what an event says of the buffer
-abbrev pub told : Event → List ℕ → List Given
-told Nothing buf = []
-told (Line n) buf = whole (take n buf) ∷ []
-told Long buf = too_long ∷ []
+-- what a cut, or none, says of the buffer
+abbrev pub told : Option Cut → List ℕ → List Given
+told None buf = []
+told (Some (Line n)) buf = whole (take n buf) ∷ []
+told (Some Long) buf = too_long ∷ []
 
 -- .. a line that it tells of is in a buffer of this length
-abbrev pub Within : Event → ℕ → Type 0
-Within Nothing size = Unit {0}
-Within (Line n) size = n ≤ size
-Within Long size = Unit {0}
+abbrev pub Within : Option Cut → ℕ → Type 0
+Within None size = Unit {0}
+Within (Some (Line n)) size = n ≤ size
+Within (Some Long) size = Unit {0}
 
 -- one byte b was fed into the line that is begun: what is told, and what is held now
-pub record Fed (begun : List ℕ) (b : ℕ) (event : Event) (len : ℕ) (buf : List ℕ) : Type 0 where
+pub record Fed (begun : List ℕ) (b : ℕ) (event : Option Cut) (len : ℕ) (buf : List ℕ) : Type 0 where
   pub tells : told event buf ≡ on_byte begun b
   pub holds : Holds len buf (begun_after begun b)
 
 -- a run of `push` on each byte of an input and of `finish` at its end, by what the two promise, and what was told on the way
 pub data Runs : ℕ → List ℕ → List ℕ → List Given → Type 0 where
-  finishes : {len : ℕ} {buf : List ℕ} (event : Event)
+  finishes : {len : ℕ} {buf : List ℕ} (event : Option Cut)
       → ((buf begun : List ℕ) → Holds len buf begun → told event buf ≡ on_end begun) → Runs len buf [] (told event buf)
-  pushes : {len next b : ℕ} {buf after s : List ℕ} {rest : List Given} (event : Event)
+  pushes : {len next b : ℕ} {buf after s : List ℕ} {rest : List Given} (event : Option Cut)
       → ((begun : List ℕ) → Holds len buf begun → Fed begun b event next after) → Runs next after s rest → Runs len buf (b ∷ s) (told event after ++ rest)

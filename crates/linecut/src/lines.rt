@@ -1,6 +1,5 @@
-// Cuts input into lines, byte by byte, so it does not matter how the input arrives. The bytes of the open line stand in a lent buffer
-// of 512; of a longer line only the fact is kept.
-ghost use Rattle.std.specs.Prelude.{◌≡◌, List, ℕ, length};
+// Cuts input into lines, byte by byte, so it does not matter how the input arrives. Of a line over 512 bytes only the fact is kept.
+ghost use Rattle.std.specs.Prelude.{◌≡◌, ◌≤◌, List, ℕ, length, take};
 ghost use Rattle.linecut.specs.Sizes.{line_limit};
 ghost use Rattle.linecut.specs.Input.{Holds, Fed, told, on_end, event_of, PushedAs, finished_event};
 
@@ -9,77 +8,79 @@ use crate::sizes::LINE_LIMIT;
 // Stands for any number of bytes above the limit.
 const OVER: usize = LINE_LIMIT + 1;
 
-// How many bytes the open line has, or OVER.
-#[derive(Clone, Copy)]
-pub struct Feed {
-    pub len: usize,
-}
-
-#[derive(Clone, Copy)]
-pub enum Event {
-    Nothing,
-    // A line whose bytes are the first of the buffer.
+// A line that was cut off.
+#[derive(Clone, Copy, PartialEq, Eq, Debug)]
+pub enum Cut {
+    // Its bytes are the first of the cutter's.
     Line(usize),
-    // A line over 512 bytes.
+    // It has over 512 bytes.
     Long,
 }
 
-#[derive(Clone, Copy)]
-pub struct Pushed {
-    pub feed: Feed,
-    pub event: Event,
+// The line that is begun: how many bytes it has, or OVER, and the bytes.
+#[derive(Drop)]
+pub struct LineCutter {
+    pub len: usize,
+    pub bytes: [u8; LINE_LIMIT],
 }
 
-pub fn start() -> Feed
-    ensures { result.len ≡ 0 }
-{
-    Feed { len: 0 }
+impl LineCutter {
+    pub fn new() -> LineCutter
+        ensures { result.len ≡ 0 }
+    {
+        LineCutter {
+            len: 0,
+            bytes: [0; LINE_LIMIT],
+        }
+    }
+
+    // Feeds one byte. After a cut no line is begun, and the bytes of the line are still there until the next byte is fed.
+    pub fn push(&mut self, byte: u8) -> Option<Cut>
+        ensures by_index { (begun : List ℕ) → Holds self.old.len self.old.bytes begun → Fed begun byte result self.new.len self.new.bytes }
+        ensures pushed_as { PushedAs self.old.len self.old.bytes byte result self.new.len self.new.bytes }
+    {
+        if byte == b'\n' {
+            let cut = ended(self.len);
+            self.len = 0;
+            return Some(cut);
+        }
+        if self.len < LINE_LIMIT {
+            self.bytes[self.len] = byte;
+            self.len += 1;
+        } else {
+            self.len = OVER;
+        }
+        None
+    }
+
+    // The end of the input: the last line, where its 0A is missing.
+    pub fn finish(&self) -> Option<Cut>
+        ensures by_index { (buf begun : List ℕ) → Holds self.now.len buf begun → told result buf ≡ on_end begun }
+        ensures value { result ≡ finished_event self.now.len }
+    {
+        if self.len == 0 {
+            return None;
+        }
+        Some(ended(self.len))
+    }
+
+    // The bytes of a line that was cut off.
+    pub fn line(&self, len: usize) -> &[u8]
+        requires { len ≤ line_limit }
+        ensures { result.now ≡ take len self.now.bytes }
+    {
+        &self.bytes[..len]
+    }
 }
 
-// The event of a line that ends with `len` bytes counted.
-fn ended(len: usize) -> Event
+// How a line ends that has `len` bytes counted.
+#[tactic(auto, unfolding(crate::specs::Input::event_of))]
+fn ended(len: usize) -> Cut
     ensures { result ≡ event_of len }
 {
     if len <= LINE_LIMIT {
-        return Event::Line(len);
+        Cut::Line(len)
+    } else {
+        Cut::Long
     }
-    Event::Long
-}
-
-// Feeds one byte. After a line the state is as at the start, and the buffer still holds the line until the next byte is fed.
-pub fn push(feed: Feed, buf: &mut [u8], byte: u8) -> Pushed
-    requires { length buf.old ≡ line_limit }
-    ensures by_index { (begun : List ℕ) → Holds feed.len buf.old begun → Fed begun byte result.event result.feed.len buf.new }
-    ensures pushed_as { PushedAs feed.len buf.old byte result.event result.feed.len buf.new }
-{
-    let len = feed.len;
-    if byte == 10 {
-        return Pushed {
-            feed: Feed { len: 0 },
-            event: ended(len),
-        };
-    }
-    if len < LINE_LIMIT {
-        buf[len] = byte;
-        return Pushed {
-            feed: Feed { len: len + 1 },
-            event: Event::Nothing,
-        };
-    }
-    Pushed {
-        feed: Feed { len: OVER },
-        event: Event::Nothing,
-    }
-}
-
-// The end of the input: the last line, where its 0A is missing.
-pub fn finish(feed: Feed) -> Event
-    ensures by_index { (buf begun : List ℕ) → Holds feed.len buf begun → told result buf ≡ on_end begun }
-    ensures value { result ≡ finished_event feed.len }
-{
-    let len = feed.len;
-    if len == 0 {
-        return Event::Nothing;
-    }
-    ended(len)
 }

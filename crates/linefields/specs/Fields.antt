@@ -1,10 +1,8 @@
 -- The fields of a line of `fieldlog`: where one ends, what a number is, what a reference is (document 01, `fieldlog`).
 -- Assumes nothing: these are definitions.
-use Rattle.std.specs.Prelude.{ℕ, suc, ◌+◌, ◌-◌, ◌*◌, ◌^◌, ◌≤◌, ◌≡◌, List, [], ◌∷◌, Bool, true, false, cond, not, ◌&&◌, ◌||◌, length, drop, ltb, leb, eqb}
+use Rattle.std.specs.Prelude.{ℕ, suc, ◌+◌, ◌-◌, ◌*◌, ◌^◌, ◌≤◌, ◌≡◌, List, [], ◌∷◌, Bool, true, false, cond, not, ◌&&◌, ◌||◌, Option, Some, None, length, drop, ltb, leb, eqb}
 use Rattle.linefields.specs.Sizes.{reference_digits}
 use Rattle.buffer.specs.Lists.{all}
-use Rattle.linefields.specs.declared.fields.Number.{Number}
-use Rattle.linefields.specs.declared.fields.Number.TheVariants.{Value, Not}
 
 -- how many bytes stand before the first comma; all of them where there is none
 unfoldable pub width : List ℕ → ℕ
@@ -29,9 +27,9 @@ abbrev pub digit : ℕ → Bool
 digit b = leb 48 b && leb b 57
 
 -- the number n with the digits s written behind it
-unfoldable pub number_from : ℕ → List ℕ → Number
-number_from n [] = cond (ltb n (2 ^ 64)) (Value n) Not
-number_from n (b ∷ s) = cond (digit b) (number_from (n * 10 + (b - 48)) s) Not
+unfoldable pub number_from : ℕ → List ℕ → Option ℕ
+number_from n [] = cond (ltb n (2 ^ 64)) (Some n) None
+number_from n (b ∷ s) = cond (digit b) (number_from (n * 10 + (b - 48)) s) None
 
 -- not empty, and no leading zero: `0` is a number, `00` and `07` are not
 unfoldable pub plain : List ℕ → Bool
@@ -39,8 +37,8 @@ plain [] = false
 plain (b ∷ []) = true
 plain (b ∷ c ∷ s) = not (eqb b 48)
 
-unfoldable pub number_of : List ℕ → Number
-number_of s = cond (plain s) (number_from 0 s) Not
+unfoldable pub number_of : List ℕ → Option ℕ
+number_of s = cond (plain s) (number_from 0 s) None
 
 -- ---- references: 40 lower-case hex digits, two for a byte
 

@@ -1,156 +1,108 @@
 // The fields of a line: where one ends, numbers, references. Each function answers for a whole field.
-ghost use Rattle.std.specs.Prelude.{◌≡◌, ◌+◌, ◌≤◌, ◌<◌, length};
-ghost use Rattle.buffer.specs.Splice.{region};
-ghost use Rattle.linefields.specs.Sizes.{reference_size, reference_digits};
-ghost use Rattle.linefields.specs.Fields.{Ends, only, number_from, number_of, hex_digit, hex_value, is_reference, unhex};
+ghost use Rattle.std.specs.Prelude.{◌≡◌, ◌+◌, ◌*◌, ◌≤◌, ◌<◌, length, Some, None, cond};
+ghost use Rattle.linefields.specs.Sizes.{reference_digits};
+ghost use Rattle.linefields.specs.Fields.{Ends, only, number_from, plain, number_of, hex_digit, hex_value, is_reference, unhex};
 
 use crate::sizes::REFERENCE_DIGITS;
 use buffer::sizes::REFERENCE_SIZE;
-
-#[derive(Clone, Copy)]
-pub enum Number {
-    Value(u64),
-    Not,
-}
-
-// 2^64 - 1 is ten times this, and 5.
-const TENTH: u64 = 1844674407370955161;
-
-fn wide(b: u8) -> u64
-    ensures { (result ≡ b) × (result < 256) }
-{
-    b as u64
-}
 
 // Where the field that begins at `from` ends.
 pub fn field_end(s: &[u8], from: usize) -> usize
     requires { from ≤ length s.now }
     ensures { Ends s.now from result }
 {
-    let mut i = from;
-    while i < s.len() {
-        if s[i] == 44 {
-            return i;
-        }
-        i += 1;
-    }
-    i
+    let rest = &s[from..];
+    from + rest.iter().position(|b| *b == b',').unwrap_or(rest.len())
 }
 
 // Is a field the one byte `b`?
+#[tactic(auto, using(crate::proofs::Scan::only_is, std::proofs::lemmas::Bool::Decides::nat_tests))]
 pub fn is_only(f: &[u8], b: u8) -> bool
     ensures { result ≡ only b f.now }
 {
-    if f.len() == 1 {
-        return f[0] == b;
+    match f {
+        [x] => *x == b,
+        _ => false,
     }
-    false
 }
 
-// The number that digits spell. Stops before the sum could pass 2^64.
-fn digits(s: &[u8]) -> Number
+// The number that digits spell.
+fn digits(s: &[u8]) -> Option<u64>
     ensures { result ≡ number_from 0 s.now }
 {
     let mut n: u64 = 0;
-    let mut i: usize = 0;
-    while i < s.len() {
-        let b = s[i];
-        if b < 48 {
-            return Number::Not;
+    for b in s {
+        if !b.is_ascii_digit() {
+            return None;
         }
-        if 57 < b {
-            return Number::Not;
-        }
-        let d = wide(b) - 48;
-        if TENTH < n {
-            return Number::Not;
-        }
-        if 18446744073709551615 - n * 10 < d {
-            return Number::Not;
-        }
-        n = n * 10 + d;
-        i += 1;
+        n = n.checked_mul(10)?.checked_add(u64::from(*b - b'0'))?;
     }
-    Number::Value(n)
+    Some(n)
+}
+
+// Not empty, and no leading zero?
+#[tactic(auto, using(crate::proofs::Scan::plain_is, std::proofs::lemmas::Bool::Decides::nat_tests))]
+fn is_plain(s: &[u8]) -> bool
+    ensures { result ≡ plain s.now }
+{
+    match s {
+        [] | [b'0', _, ..] => false,
+        _ => true,
+    }
 }
 
 // The number of a field.
-pub fn decimal(s: &[u8]) -> Number
+#[tactic(auto, unfolding(crate::specs::Fields::number_of))]
+pub fn decimal(s: &[u8]) -> Option<u64>
     ensures { result ≡ number_of s.now }
 {
-    if s.len() == 0 {
-        return Number::Not;
-    }
-    if 1 < s.len() {
-        if s[0] == 48 {
-            return Number::Not;
-        }
-    }
-    digits(s)
+    if is_plain(s) { digits(s) } else { None }
 }
 
-fn is_hex_digit(b: u8) -> bool
-    ensures { result ≡ hex_digit b }
+// What a hex digit is worth.
+#[tactic(auto, unfolding(crate::specs::Fields::hex_digit, crate::specs::Fields::hex_value))]
+fn hex_value(b: u8) -> Option<u8>
+    ensures { result ≡ cond (hex_digit b) (Some (hex_value b)) None }
 {
-    if b < 48 {
-        return false;
+    match b {
+        b'0'..=b'9' => Some(b - b'0'),
+        b'a'..=b'f' => Some(b - b'a' + 10),
+        _ => None,
     }
-    if b <= 57 {
-        return true;
-    }
-    if b < 97 {
-        return false;
-    }
-    if b <= 102 {
-        return true;
-    }
-    false
 }
 
 // Is a field a reference?
 pub fn is_reference(s: &[u8]) -> bool
     ensures { result ≡ is_reference s.now }
 {
-    if s.len() != REFERENCE_DIGITS {
-        return false;
-    }
-    let mut i: usize = 0;
-    while i < s.len() {
-        if !is_hex_digit(s[i]) {
-            return false;
-        }
-        i += 1;
-    }
-    true
+    s.len() == REFERENCE_DIGITS && s.iter().all(|b| hex_value(*b).is_some())
 }
 
-fn hex_value(b: u8) -> u8
-    ensures { (result ≡ hex_value b) × (result < 16) }
+// The byte that two hex digits spell; what is no hex digit counts as 0.
+fn hex_byte(high: u8, low: u8) -> u8
+    ensures { result ≡ hex_value high * 16 + hex_value low }
 {
-    if b < 48 {
-        return 0;
-    }
-    if b <= 57 {
-        return b - 48;
-    }
-    if b < 97 {
-        return 0;
-    }
-    if b <= 102 {
-        return b - 87;
-    }
-    0
+    hex_value(high).unwrap_or(0) * 16 + hex_value(low).unwrap_or(0)
 }
 
-// The 20 bytes of the reference whose 40 digits begin at `at`.
-pub fn reference(s: &[u8], at: usize, out: &mut [u8])
-    requires { (at + reference_digits ≤ length s.now) × (length out.old ≡ reference_size) }
-    ensures { out.new ≡ unhex (region s.now at reference_digits) }
+// The 20 bytes that 40 hex digits spell; what is no hex digit counts as 0.
+pub fn unhex(digits: &[u8; REFERENCE_DIGITS]) -> [u8; REFERENCE_SIZE]
+    ensures { result ≡ unhex digits.now }
 {
-    let mut i: usize = 0;
-    while i < REFERENCE_SIZE {
-        let from = at + 2 * i;
-        out[i] = hex_value(s[from]) * 16 + hex_value(s[from + 1]);
-        i += 1;
+    let mut out = [0; REFERENCE_SIZE];
+    for i in 0..REFERENCE_SIZE {
+        out[i] = hex_byte(digits[2 * i], digits[2 * i + 1]);
     }
+    out
+}
+
+// The reference that a field spells.
+pub fn reference(s: &[u8]) -> Option<[u8; REFERENCE_SIZE]>
+    ensures { result ≡ cond (is_reference s.now) (Some (unhex s.now)) None }
+{
+    let digits = s.first_chunk::<REFERENCE_DIGITS>()?;
+    if !is_reference(s) {
+        return None;
+    }
+    Some(unhex(digits))
 }

@@ -1,20 +1,17 @@
 -- Writers one after another, and the turn of the hex loop. Assumes nothing.
 use mathlib.Core.Path.{◌≡◌, refl, sym, ap, ◌∙◌}
 use mathlib.Core.List.{List, [], ◌∷◌, ◌++◌, append_assoc}
-use Prim.Native.Nat.{ℕ, ◌+◌, ◌-◌, ◌*◌, ◌/◌, ◌%◌, ◌≤◌, ◌<◌}
+use Prim.Native.Nat.{ℕ, min, ◌+◌, ◌-◌, ◌*◌, ◌/◌, ◌%◌, ◌≤◌, ◌<◌}
 use native.Mathlib.Omega.{arith}
 use native.Mathlib.Numerals.{add-one}
-use lib.ListN.{length, get_or, take, drop, set, length-append, length-drop}
-use lib.Seq.{take-suc, take_all, length-take-le}
-use borrow.Author.Tests.{lt-ltb, le-ltb}
+use lib.ListN.{length, get_or, take, drop, set, length-append, length-drop, length-set}
+use Rattle.std.proofs.lemmas.List.{take_min}
+use lib.Seq.{take-suc, length-take-le}
 use Rattle.buffer.specs.Splice.{splice, region}
 use Rattle.buffer.proofs.Splice.{set_splice, splice_nil, splice_next, length_splice, length_region}
-use Rattle.buffer.proofs.Turns.{grow}
-use Rattle.linespell.specs.Spelling.{decimal, glyph, hex, Wrote}
-use Rattle.linespell.proofs.Decimals.{length_decimal}
-
-pub wrote_byte : (s : List ℕ) (at b : ℕ) → at < length s → Wrote s at (b ∷ []) (set s at b) (at + 1)
-wrote_byte s at b h = record { is = set_splice s at b h; ends = refl; room = omega arith }
+use Rattle.linespell.specs.Spelling.{glyph, hex, Wrote}
+use Rattle.linespell.specs.Put.{Put}
+use Rattle.linespell.specs.declared.spell.Line.{Line}
 
 -- two writers, the second where the first ended
 pub then : {s t u a b : List ℕ} {at p q : ℕ} → Wrote s at a t p → Wrote t p b u q → Wrote s at (a ++ b) u q
@@ -24,17 +21,17 @@ then {s} {t} {u} {a} {b} {at} {p} {q} x y =
     let e : u ≡ splice (splice s at a) (at + length a) b = y.is ∙ rw (x.is, x.ends) in
     record { is = e ∙ splice_next s at a x.room b; ends = omega arith; room = omega arith }
 
-pub glyph_low : (d : ℕ) → d < 10 → glyph d ≡ 48 + d
-unfolding glyph
-glyph_low d h = rw (lt-ltb d 10 h)
+pub put_one : {line after : Line} {b : ℕ} → line.at < length line.out.now → after.out.now ≡ set line.out.now line.at b → after.at ≡ line.at + 1
+    → after.out.ghost_name ≡ line.out.ghost_name → Put line (b ∷ []) after
+put_one {line} {after} {b} h e f g =
+    record { wrote = record { is = e ∙ set_splice line.out.now line.at b h; ends = f; room = omega arith }; kept = ap length e ∙ length-set line.out.now line.at b; same = g }
 
-pub glyph_high : (d : ℕ) → 10 ≤ d → glyph d ≡ 87 + d
-unfolding glyph
-glyph_high d h = rw (le-ltb d 10 h)
+-- two writers
+pub put_then : {a m c : Line} {x y : List ℕ} → Put a x m → Put m y c → Put a (x ++ y) c
+put_then p q = record { wrote = then p.wrote q.wrote; kept = q.kept ∙ p.kept; same = q.same ∙ p.same }
 
-pub hex_start : (s : List ℕ) (at : ℕ) → s ≡ splice s at (hex [])
-unfolding hex
-hex_start s at = sym (splice_nil s at)
+pub wrote_nothing : (s : List ℕ) (at : ℕ) → at ≤ length s → Wrote s at [] s at
+wrote_nothing s at h = record { is = sym (splice_nil s at); ends = omega arith; room = omega arith }
 
 pub length_hex : (s : List ℕ) → length (hex s) ≡ 2 * length s
 unfolding hex
@@ -46,38 +43,17 @@ unfolding hex
 hex_more [] b = refl
 hex_more (x ∷ s) b = ap (λ (l : List ℕ). glyph (x / 16) ∷ glyph (x % 16) ∷ l) (hex_more s b)
 
-pub hex_turn : (s out out₀ : List ℕ) (at i u v : ℕ) → out ≡ splice out₀ at (hex (take i s)) → i < length s → at + 2 * length s ≤ length out₀
-    → u ≡ glyph (get_or s i 0 / 16) → v ≡ glyph (get_or s i 0 % 16) → set (set out (at + 2 * i) u) (at + 2 * i + 1) v ≡ splice out₀ at (hex (take (i + 1) s))
-hex_turn s out out₀ at i u v e h room p q =
-    let x = hex (take i s) in
-    let l : length x ≡ 2 * i = length_hex (take i s) ∙ ap (λ (n : ℕ). 2 * n) (length-take-le i s (omega arith)) in
-    let l' : length (x ++ (u ∷ [])) ≡ 2 * i + 1 = length-append x (u ∷ []) ∙ omega arith in
-    let more : (x ++ (u ∷ [])) ++ (v ∷ []) ≡ hex (take (i + 1) s) =
-    rw (add-one, take-suc s i 0 h, hex_more (take i s) (get_or s i 0), append_assoc x (u ∷ []) (v ∷ []), p, q) in
-    let one : set out (at + 2 * i) u ≡ splice out₀ at (x ++ (u ∷ [])) = grow out out₀ at (2 * i) x (x ++ (u ∷ [])) u e l (omega arith) refl in
-    let n : at + 2 * i + 1 ≡ at + (2 * i + 1) = omega arith in
-    rw n (grow (set out (at + 2 * i) u) out₀ at (2 * i + 1) (x ++ (u ∷ [])) (hex (take (i + 1) s)) v one l' (omega arith) more)
+pub hex_next : (s : List ℕ) (i : ℕ) → i < length s → hex (take (i + 1) s) ≡ (hex (take i s) ++ (glyph (get_or s i 0 / 16) ∷ [])) ++ (glyph (get_or s i 0 % 16) ∷ [])
+hex_next s i h = rw (add-one, take-suc s i 0 h, hex_more (take i s) (get_or s i 0), append_assoc (hex (take i s)) (glyph (get_or s i 0 / 16) ∷ []) (glyph (get_or s i 0 % 16) ∷ []))
 
 -- a path length that the row cannot hold is as good as 200
-pub path_clipped : (row : List ℕ) (n : ℕ) → length row ≡ 229 → 200 < n → region row 29 200 ≡ region row 29 n
-path_clipped row n l h =
+pub path_clipped : (row : List ℕ) (m n : ℕ) → length row ≡ 229 → m ≡ get_or row 28 0 → n ≡ min m 200
+    → (length (take (29 + n - 29) (drop 29 row)) ≤ 200) × (take (29 + n - 29) (drop 29 row) ≡ region row 29 (get_or row 28 0))
+path_clipped row m n l p q =
     let d : length (drop 29 row) ≡ 200 = length-drop 29 row ∙ omega arith in
-    take_all 200 (drop 29 row) (omega arith) ∙ sym (take_all n (drop 29 row) (omega arith))
+    let e : 29 + n - 29 ≡ n = omega arith in
+    rw e (omega (arith, length-take-le n (drop 29 row) (omega arith)), rw (← p) (rw (q, ← d) (take_min m (drop 29 row))))
 
--- how long the parts of a row's line are
-pub record Sizes (row : List ℕ) (v n : ℕ) : Type 0 where
-  pub value : length (decimal v) ≤ 20
-  pub reference : length (region row 8 20) ≡ 20
-  pub digits : length (hex (region row 8 20)) ≡ 40
-  pub path : length (take (29 + n - 29) (drop 29 row)) ≤ 200
-
-pub sizes : (row : List ℕ) (v n : ℕ) → length row ≡ 229 → n ≤ 200 → Sizes row v n
-sizes row v n l h =
-    let r : length (region row 8 20) ≡ 20 = length_region row 8 20 (omega arith) in
-    let k : 29 + (29 + n - 29) ≤ length row = omega arith in
-    record {
-      value = length_decimal v;
-      reference = r;
-      digits = length_hex (region row 8 20) ∙ ap (λ (m : ℕ). 2 * m) r;
-      path = omega (arith, length_region row 29 (29 + n - 29) k);
-    }
+-- the digits of a row's reference
+pub length_reference : (row : List ℕ) → length row ≡ 229 → length (hex (take 20 (drop 8 row))) ≡ 40
+length_reference row l = length_hex (take 20 (drop 8 row)) ∙ ap (λ (m : ℕ). 2 * m) (length_region row 8 20 (omega arith))

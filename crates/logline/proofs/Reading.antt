@@ -1,74 +1,50 @@
--- A field of a line at a position: there, or lost because no comma follows. Assumes nothing.
-use mathlib.Core.Path.{◌≡◌, sym, ap, subst, ◌∙◌}
-use mathlib.Core.Bool.{true, false}
-use mathlib.Core.List.{List, []}
-use Prim.Native.Nat.{ℕ, ◌+◌, ◌-◌, ◌≤◌, ◌<◌}
+-- A field of a line: there, or lost because no comma follows. Assumes nothing.
+use mathlib.Core.Path.{◌≡◌, refl, sym}
+use Rattle.std.proofs.Common.{Option, Some, None}
+use mathlib.Core.Bool.{Bool, true, false, cond}
+use mathlib.Core.List.{List}
+use Prim.Native.Nat.{ℕ, ◌+◌, ◌≤◌, ◌<◌}
 use native.Mathlib.Omega.{arith}
-use lib.ListN.{length, take, drop, length-drop, drop_of_length-le}
-use lib.Seq.{drop-drop}
+use lib.ListN.{length, take, drop}
 use lib.Dec.{ltb}
 use borrow.Author.Tests.{lt-ltb, le-ltb}
-use Rattle.buffer.proofs.Splice.{length_region}
-use Rattle.linefields.specs.Fields.{width, Ends, number_of, is_reference}
-use Rattle.logline.specs.Meaning.{Meaning, with_field, with_number, meaning, Says}
+use Rattle.linefields.specs.Fields.{width, Ends}
+use Rattle.logline.specs.Meaning.{Meaning, with_field, meaning, line_of, Says}
 use Rattle.logline.specs.Meaning.Meaning.{misread}
-use Rattle.logline.specs.declared.command.Command.TheVariants.{Misread}
-use Rattle.logline.specs.declared.command.Field.{Field}
-use Rattle.logline.specs.declared.command.Field.TheVariants.{Numeral, Lost}
-use Rattle.logline.specs.Numerals.{with_numeral, Behind, NumberRead}
-use Rattle.linefields.proofs.Scan.{reference_length}
+use Rattle.logline.specs.declared.command.Command.{Command}
 
-pub misreads : (s : List ℕ) (m : Meaning) → m ≡ misread → Says s m Misread
-misreads s m e = record { means = sym e; inside = tt }
-
-module _ (s : List ℕ) (at e : ℕ) (ends : Ends s at e) where
-  pub there : (e ≡ length s → ⊥) → (k : List ℕ → List ℕ → Meaning) → with_field (drop at s) k ≡ k (take (e - at) (drop at s)) (drop (e + 1) s)
+module _ (s : List ℕ) (e : ℕ) (ends : Ends s 0 e) where
+  pub field_there : (e ≡ length s → ⊥) → (k : List ℕ → List ℕ → Meaning) → with_field s k ≡ k (take e s) (drop (e + 1) s)
   unfolding with_field
-  there ne k =
-      let w : width (drop at s) ≡ e - at = omega arith in
-      let n : at + (e - at + 1) ≡ e + 1 = omega arith in
-      let t : ltb (e - at) (length (drop at s)) ≡ true = lt-ltb (e - at) (length (drop at s)) (rw length-drop (omega arith)) in
-      rw (w, t, drop-drop, n)
+  field_there ne k =
+      let w : width s ≡ e = omega arith in
+      let t : ltb e (length s) ≡ true = lt-ltb e (length s) (omega arith) in
+      rw (w, t)
 
-  pub lost : at ≤ length s → e ≡ length s → (k : List ℕ → List ℕ → Meaning) → with_field (drop at s) k ≡ misread
+  pub field_lost : e ≡ length s → (k : List ℕ → List ℕ → Meaning) → with_field s k ≡ misread
   unfolding with_field
-  lost h l k =
-      let t : ltb (width (drop at s)) (length (drop at s)) ≡ false = le-ltb (width (drop at s)) (length (drop at s)) (rw length-drop (omega arith)) in
+  field_lost l k =
+      let t : ltb (width s) (length s) ≡ false = le-ltb (width s) (length s) (omega arith) in
       rw t
 
-  pub reference_field : at ≤ e → is_reference (take (e - at) (drop at s)) ≡ true → e ≡ at + 40
-  reference_field h r = omega (arith, length_region s at (e - at) (omega arith), reference_length _ r)
+-- nothing was read, where that is what the line means
+pub misreads : {m : Meaning} {r : Option Command} → r ≡ None → m ≡ misread → Says m r
+misreads e f = rw e (record { means = sym f })
 
--- a decimal field that was read
-module _ (s : List ℕ) (at : ℕ) (r : Field) (h : NumberRead s at r) where
-  abbrev Goes : (ℕ → List ℕ → Meaning) → Meaning → Type 0
-  Goes k m = with_field (drop at s) (λ f t. with_number (number_of f) (λ n. k n t)) ≡ m
+-- the test of a reference, and the reference
+pub no_reference : (t : Bool) (x : List ℕ) (m : Meaning) → ◌≡◌ {A = Option (List ℕ)} None (cond t (Some x) None) → cond t m misread ≡ misread
+no_reference true x m e = cc
+no_reference false x m e = refl
 
-  pub number_lost : r ≡ Lost → (k : ℕ → List ℕ → Meaning) → Goes k misread
-  number_lost e k = h.means k ∙ ap (λ (x : Field). with_numeral s x k) e
-
-  module _ (n next : ℕ) (e : r ≡ Numeral n next) where
-    pub number_there : (k : ℕ → List ℕ → Meaning) → Goes k (k n (drop next s))
-    number_there k = h.means k ∙ ap (λ (x : Field). with_numeral s x k) e
-
-    pub number_behind : next ≤ length s
-    number_behind = subst (Behind s) e h.behind
+pub a_reference : (t : Bool) (x r : List ℕ) (k : List ℕ → Meaning) → Some r ≡ cond t (Some x) None → cond t (k x) misread ≡ k r
+a_reference true x r k e =
+    let f : r ≡ x = cc in
+    rw f
+a_reference false x r k e = cc
 
 -- the test on a line's length
-module _ (s : List ℕ) (at : ℕ) where
-  pub longer : 512 < length s - at → ltb 512 (length (drop at s)) ≡ true
-  longer h = lt-ltb 512 (length (drop at s)) (rw length-drop h)
+pub longer : (s : List ℕ) → 512 < length s → meaning s ≡ misread
+longer s h = rw (lt-ltb 512 (length s) h)
 
-  pub shorter : length s - at ≤ 512 → ltb 512 (length (drop at s)) ≡ false
-  shorter h = le-ltb 512 (length (drop at s)) (rw length-drop h)
-
-  -- past the end
-  module _ (h : length s < at) where
-    pub tail_beyond : [] ≡ drop at s
-    tail_beyond =
-        let k : length s ≤ at = omega arith in
-        sym (drop_of_length-le s k)
-
-    pub beyond : meaning (drop at s) ≡ misread
-    unfolding with_field width
-    beyond = rw (← tail_beyond)
+pub shorter : (s : List ℕ) → length s ≤ 512 → meaning s ≡ line_of s
+shorter s h = rw (le-ltb 512 (length s) h)

@@ -3,4 +3,4 @@ pub use Rattle.linespell.specs.Spelling
 pub use Rattle.linecut.specs.Input
 pub mod Sizes
 pub mod Meaning
-pub mod Numerals
+pub mod Reading

@@ -1,17 +1,13 @@
 -- What a line of `fieldlog` means (document 01, `fieldlog`): `M,L,τ`, or `+,value,reference,path`, or `?,low,high,pattern`. A line is read
 -- field by field, and the path or pattern is all that remains, commas included. Worked in session/specs/Worked.antt. Assumes nothing: these are
 -- definitions.
-use Rattle.std.specs.Prelude.{ℕ, ◌+◌, ◌≤◌, ◌≡◌, List, cond, length, take, drop, ltb}
+use Rattle.std.specs.Prelude.{ℕ, ◌+◌, ◌≡◌, List, Option, Some, None, cond, length, take, drop, ltb}
 use Rattle.linecut.specs.Sizes.{line_limit}
 use Rattle.linecut.specs.Input.{Given}
 use Rattle.linecut.specs.Input.Given.{whole, too_long}
-use Rattle.linefields.specs.Sizes.{reference_digits}
-use Rattle.buffer.specs.Splice.{region}
 use Rattle.linefields.specs.Fields.{width, only, number_of, is_reference, unhex}
-use Rattle.linefields.specs.declared.fields.Number.{Number}
-use Rattle.linefields.specs.declared.fields.Number.TheVariants.{Value, Not}
 use Rattle.logline.specs.declared.command.Command.{Command}
-use Rattle.logline.specs.declared.command.Command.TheVariants.{Setup, Add, Search, Misread}
+use Rattle.logline.specs.declared.command.Command.TheVariants.{Setup, Add, Search}
 
 pub data Meaning : Type 0 where
   setup : ℕ → ℕ → ℕ → Meaning  -- M, L, τ
@@ -23,9 +19,9 @@ pub data Meaning : Type 0 where
 unfoldable pub with_field : List ℕ → (List ℕ → List ℕ → Meaning) → Meaning
 with_field s k = cond (ltb (width s) (length s)) (k (take (width s) s) (drop (width s + 1) s)) misread
 
-abbrev pub with_number : Number → (ℕ → Meaning) → Meaning
-with_number (Value n) k = k n
-with_number Not k = misread
+abbrev pub with_number : Option ℕ → (ℕ → Meaning) → Meaning
+with_number (Some n) k = k n
+with_number None k = misread
 
 -- `value,reference,path`
 abbrev pub addition_of : List ℕ → Meaning
@@ -58,22 +54,14 @@ abbrev pub meaning_of : Given → Meaning
 meaning_of (whole l) = meaning l
 meaning_of too_long = misread
 
--- ---- a command: the meaning with positions in the line for what it does not hold
+-- ---- a command, or none
 
-abbrev pub meant : List ℕ → Command → Meaning
-meant s (Setup m l tau) = setup m l tau
-meant s (Add value reference path) = addition value (unhex (region s reference reference_digits)) (drop path s)
-meant s (Search low high pattern) = searching low high (drop pattern s)
-meant s Misread = misread
+abbrev pub meant : Option Command → Meaning
+meant (Some (Setup m l tau)) = setup m l tau
+meant (Some (Add value reference path)) = addition value reference path.now
+meant (Some (Search low high pattern)) = searching low high pattern.now
+meant None = misread
 
--- its positions are in the line
-abbrev pub Inside : List ℕ → Command → Type 0
-Inside s (Setup m l tau) = Unit {0}
-Inside s (Add value reference path) = (reference + reference_digits ≤ length s) × (path ≤ length s)
-Inside s (Search low high pattern) = pattern ≤ length s
-Inside s Misread = Unit {0}
-
--- the command r says m of the line s
-pub record Says (s : List ℕ) (m : Meaning) (r : Command) : Type 0 where
-  pub means : meant s r ≡ m
-  pub inside : Inside s r
+-- the command r, or none, says m
+pub record Says (m : Meaning) (r : Option Command) : Type 0 where
+  pub means : meant r ≡ m

@@ -1,2 +1,2 @@
 // Cutting input into lines, of crate linecut.
-pub use linecut::lines::{Event, Feed, Pushed, finish, push, start};
+pub use linecut::lines::{Cut, LineCutter};

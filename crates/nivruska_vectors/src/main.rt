@@ -3,16 +3,15 @@
 #![tactic(auto)]
 
 ghost use Rattle.std.specs.Prelude.{◌≡◌, length};
-ghost use Rattle.rows.specs.Sizes.{row_size, record_size};
+ghost use Rattle.rows.specs.Sizes.{record_size};
 
 use buffer::numbers::get64;
 use console::Console;
 use linespell::spell::{spell_reply, spell_row};
 use logline::sizes::{REPLY_LIMIT, ROW_LINE_LIMIT};
-use rows::sizes::{
-    LENGTH_AT, NODE_LIMIT, PATH_AT, PATH_LIMIT, RECORD_SIZE, REFERENCE_AT, ROW_SIZE,
-};
+use rows::sizes::{LENGTH_AT, PATH_AT, PATH_LIMIT, RECORD_SIZE, REFERENCE_AT, ROW_SIZE};
 use std::io;
+use store::reply::Reply;
 
 const NODES_AT: usize = ROW_SIZE + 1;
 
@@ -26,26 +25,18 @@ const ANSWER_SIZE: usize = 9 * RECORD_SIZE;
 // More rows than such a store holds.
 const ROWS: usize = 20;
 
-fn wide(b: u8) -> u64 {
-    b as u64
-}
-
-fn print_front(console: &mut Console, s: &[u8], n: usize) {
-    if n <= s.len() {
-        console.print(&s[0..n]);
-    }
-}
-
 fn print_numbers(console: &mut Console, a: u64, b: u64, c: u64) {
     let mut text = [0u8; REPLY_LIMIT];
     let n = spell_reply(&mut text, 0, a, b, c);
-    print_front(console, &text, n);
+    console.print(&text[..n]);
 }
 
-fn add_row(console: &mut Console, store: &mut [u8], row: &[u8])
-    requires { length row.now ≡ row_size }
-{
-    let n = trie_read::head::wide(row[LENGTH_AT]);
+fn print_reply(console: &mut Console, reply: Reply) {
+    print_numbers(console, u64::from(reply.number), reply.first, reply.second);
+}
+
+fn add_row(console: &mut Console, store: &mut [u8], row: &[u8; ROW_SIZE]) {
+    let n = usize::from(row[LENGTH_AT]);
     if PATH_LIMIT < n {
         return;
     }
@@ -55,32 +46,16 @@ fn add_row(console: &mut Console, store: &mut [u8], row: &[u8])
         get64(row, 0),
         &row[REFERENCE_AT..LENGTH_AT],
     );
-    print_numbers(console, reply.number as u64, reply.first, reply.second);
+    print_reply(console, reply);
 }
 
 fn add_rows(console: &mut Console, store: &mut [u8]) {
     let mut row = [0u8; ROW_SIZE];
-    let mut i: usize = 0;
-    while i < ROWS {
+    for _ in 0..ROWS {
         if console.read_full(&mut row) < ROW_SIZE {
             return;
         }
         add_row(console, store, &row);
-        i += 1;
-    }
-}
-
-fn print_node(console: &mut Console, bytes: &[u8], i: usize)
-    requires { length bytes.now ≡ record_size }
-{
-    if i < NODE_LIMIT {
-        let at = NODES_AT + NODE_SIZE * i;
-        print_numbers(
-            console,
-            wide(bytes[at]),
-            wide(bytes[at + 1]),
-            wide(bytes[at + 2]),
-        );
     }
 }
 
@@ -89,25 +64,25 @@ fn print_record(console: &mut Console, bytes: &[u8])
 {
     let mut text = [0u8; ROW_LINE_LIMIT];
     let n = spell_row(&mut text, 0, &bytes[0..ROW_SIZE]);
-    print_front(console, &text, n);
-    let nodes = trie_read::head::wide(bytes[ROW_SIZE]);
-    let mut i: usize = 0;
-    while i < nodes {
-        print_node(console, bytes, i);
-        i += 1;
+    console.print(&text[..n]);
+    let nodes = usize::from(bytes[ROW_SIZE]);
+    for node in bytes[NODES_AT..].chunks_exact(NODE_SIZE).take(nodes) {
+        if let [kind, path, value] = node {
+            print_numbers(
+                console,
+                u64::from(*kind),
+                u64::from(*path),
+                u64::from(*value),
+            );
+        }
     }
 }
 
 fn print_records(console: &mut Console, answer: &[u8], n: usize) {
-    let mut t = answer;
-    let mut i: usize = 0;
-    while i < n {
-        if t.len() < RECORD_SIZE {
-            return;
+    for record in answer.chunks_exact(RECORD_SIZE).take(n) {
+        if record.len() == RECORD_SIZE {
+            print_record(console, record);
         }
-        print_record(console, &t[0..RECORD_SIZE]);
-        t = &t[RECORD_SIZE..];
-        i += 1;
     }
 }
 
@@ -115,11 +90,11 @@ fn main(rt: HostRuntime) -> io::Result<()> {
     let mut console = Console::new(rt.stdin(), rt.stdout());
     let mut store = [0u8; STORE_SIZE];
     let mut answer = [0u8; ANSWER_SIZE];
-    let setup = nivruska::setup(&mut store, 9, 1, 2);
-    print_numbers(&mut console, setup.number as u64, setup.first, setup.second);
+    let reply = nivruska::setup(&mut store, 9, 1, 2);
+    print_reply(&mut console, reply);
     add_rows(&mut console, &mut store);
     let reply = nivruska::read_level(&store, 0, &mut answer);
     print_records(&mut console, &answer, reply.first as usize);
-    print_numbers(&mut console, reply.number as u64, reply.first, reply.second);
+    print_reply(&mut console, reply);
     console.finish()
 }

@@ -4,3 +4,4 @@ pub mod Enough
 pub mod Keeps
 pub mod Whole
 pub mod Worked
+pub mod Stands

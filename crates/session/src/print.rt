@@ -8,7 +8,6 @@ ghost use Rattle.logline.specs.Spelling.{row_line, Wrote};
 ghost use Rattle.store.specs.Said.{said};
 ghost use Rattle.session.specs.Printed.{reply_line};
 
-use logline::sizes::REPLY_LIMIT;
 use logline::spell::{spell_reply, spell_row};
 use rows::sizes::ROW_SIZE;
 use store::reply::Reply;
@@ -20,16 +19,15 @@ pub(crate) fn print_rows(answer: &[u8], n: usize, out: &mut [u8]) -> usize
     ensures upper_bound { result ≤ n * row_line_limit }
 {
     let mut at: usize = 0;
-    let mut i: usize = 0;
-    while i < n {
+    for i in 0..n {
         let from = i * ROW_SIZE;
         at = spell_row(out, at, &answer[from..from + ROW_SIZE]);
-        i += 1;
     }
     at
 }
 
 // The line of a reply, from `at` on.
+#[tactic(auto, unfolding(crate::specs::Printed::reply_line))]
 pub(crate) fn print_reply(reply: Reply, out: &mut [u8], at: usize) -> usize
     requires { at + reply_limit ≤ length out.old }
     ensures { Wrote out.old at (reply_line (said reply)) out.new result }

@@ -1,4 +1,4 @@
--- The bytes of the chunk are fed in turn, and each buffer keeps its length.
+-- The bytes so far are fed.
 use Prim.Native.Nat.{◌+◌}
 use mathlib.Core.Path.{◌≡◌}
 use mathlib.Core.List.{[], ◌∷◌, ◌++◌}
@@ -9,17 +9,17 @@ use lib.Seq.{take-suc, take_all}
 use Rattle.session.proofs.Whole.{fed_none, fed_more}
 use Rattle.fieldlog.proofs.feed_chunk.Goals as goal
 
-pub loop-i-init : goal.loop-i-init
-loop-i-init c = (omega arith, omega arith, omega arith, omega arith, omega arith, fed_none)
+pub loop-byte-init : goal.loop-byte-init
+loop-byte-init c = fed_none
 
-pub loop-i-preserved : goal.loop-i-preserved
-loop-i-preserved c =
-    let l = c.loop-i in
+pub loop-byte-preserved : goal.loop-byte-preserved
+loop-byte-preserved c =
+    let l = c.loop-byte in
     let chunk = c.args.chunk.now in
-    let one : take (l.i + 1) chunk ≡ take l.i chunk ++ (get_or chunk l.i 0 ∷ []) = rw (add-one, take-suc chunk l.i 0 (omega arith)) in
-    (omega arith, omega arith, omega arith, omega arith, omega arith, rw one (fed_more l.invariant.5 c.feed_byte-fed.ensures.fed_byte))
+    let one : take (l.byte-index + 1) chunk ≡ take l.byte-index chunk ++ (get_or chunk l.byte-index 0 ∷ []) = rw (add-one, take-suc chunk l.byte-index 0 (omega arith)) in
+    rw one (fed_more l.invariant c.feed_byte.ensures)
 
 pub returns : goal.returns
 returns c =
     let chunk = c.args.chunk.now in
-    rw (take_all c.loop-i.i chunk (omega arith)) at c.loop-i.invariant.5
+    rw (take_all c.loop-byte.byte-index chunk (omega arith)) at c.loop-byte.invariant

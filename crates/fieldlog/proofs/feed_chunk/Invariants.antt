@@ -1,16 +1,8 @@
--- The bytes of the chunk are fed in turn, and each buffer keeps its length.
-use Prim.Native.Nat.{◌-◌, ◌≤◌}
-use mathlib.Core.Path.{◌≡◌}
-use lib.ListN.{length, take}
-use Rattle.logline.specs.Sizes.{line_limit}
-use Rattle.session.specs.Sizes.{store_size, answer_size, print_limit}
-use Rattle.session.specs.Keeps.{state}
+-- The bytes so far are fed.
+use lib.ListN.{take}
+use Rattle.session.specs.Stands.{state_of}
 use Rattle.session.specs.Whole.{FedBytes}
 use Rattle.fieldlog.proofs.feed_chunk.Given as goal
 
-abbrev pub invariant-loop-i : goal.invariant-loop-i
-invariant-loop-i l = (l.i ≤ length l.chunk) × (length l.line ≡ line_limit) × (length l.store ≡ store_size) × (length l.answer ≡ answer_size) × (length l.out ≡ print_limit)
-    × FedBytes (state l.start l.initial.line l.initial.store) (take l.i l.chunk) (state l.len l.line l.store)
-
-abbrev pub decreases-loop-i : goal.decreases-loop-i
-decreases-loop-i l = length l.chunk - l.i
+abbrev pub invariant-loop-byte : goal.invariant-loop-byte
+invariant-loop-byte l = FedBytes (state_of l.initial.session) (take l.byte-index l.chunk) (state_of l.session)

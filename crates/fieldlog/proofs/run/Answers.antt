@@ -8,7 +8,4 @@ fed_from : {s t after : State} → s ≡ t → FedSome s after → FedSome t aft
 fed_from {after = after} e f = subst (λ (s : State). FedSome s after) e f
 
 pub returns : goal.returns
-returns c =
-    let fed = c.feed_all-len.ensures in
-    let ended = c.feed_end.ensures in
-    (ended.upper_bound, record { last = _; fed = fed_from c.requires.store_value fed; ends = ended.fed_end })
+returns c = record { last = _; fed = fed_from c.requires c.feed_all.ensures; ends = c.feed_end.ensures }

@@ -1,31 +1,20 @@
--- Up to i every byte was a hex digit.
-use borrow.Author.Tests.{not-true, not-false}
+-- `all` tests each byte for a hex digit.
+use Rattle.std.proofs.Common.{rules}
 use native.Mathlib.Omega.{arith}
-use mathlib.Core.Path.{refl, sym, ◌∙◌}
-use Rattle.linefields.proofs.Scan.{all_turn, all_stop, all_end, reference_short, reference_is}
+use Rattle.std.proofs.lemmas.Grind.{common_steps}
+use Rattle.std.proofs.lemmas.Iterator.{YieldsList-from_slice}
+use Rattle.std.proofs.lemmas.Iterator.Search.{all_from_yields_List}
+use mathlib.Core.Path.{sym, ◌∙◌}
+use Rattle.linefields.specs.Fields.{hex_digit, is_reference}
+use Rattle.linefields.proofs.Scan.{reference_is, all_is, worth_there}
 use Rattle.linefields.proofs.fields.is_reference.Goals as goal
 
-pub returns-then-s-ne-REFERENCE_DIGITS : goal.returns-then-s-ne-REFERENCE_DIGITS
-returns-then-s-ne-REFERENCE_DIGITS c = sym (reference_short _ c.if-s-ne-REFERENCE_DIGITS.true)
-
-pub loop-i-init : goal.loop-i-init
-loop-i-init c = (omega arith, omega arith, refl)
-
-pub returns-then-not-is_hex_digit : goal.returns-then-not-is_hex_digit
-returns-then-not-is_hex_digit c =
-    let l = c.loop-i in
+pub returns-then-s-eq-REFERENCE_DIGITS : goal.returns-then-s-eq-REFERENCE_DIGITS
+returns-then-s-eq-REFERENCE_DIGITS c =
     let s = c.args.s.now in
-    let e = sym c.is_hex_digit.ensures ∙ not-true _ c.if-not-is_hex_digit.true-raw in
-    sym (reference_is s l.invariant.1 ∙ sym l.invariant.2 ∙ all_stop s l.i (omega arith) e)
+    let e = all_from_yields_List hex_digit _ _ c.all.result c.all.ensures.ran (YieldsList-from_slice s (search rules)) (λ x b q k. search (rules, worth_there)) in
+    e ∙ all_is hex_digit s ∙ sym (reference_is s (search rules))
 
-pub loop-i-preserved : goal.loop-i-preserved
-loop-i-preserved c =
-    let l = c.loop-i in
-    let s = c.args.s.now in
-    let e = sym c.is_hex_digit.ensures ∙ not-false _ c.if-not-is_hex_digit.false-raw in
-    (omega arith, omega arith, sym (all_turn s l.i (omega arith) e) ∙ l.invariant.2)
-
-pub returns : goal.returns
-returns c =
-    let l = c.loop-i in
-    sym (reference_is _ l.invariant.1 ∙ sym l.invariant.2 ∙ all_end _ l.i (omega arith))
+pub returns-else-s-eq-REFERENCE_DIGITS : goal.returns-else-s-eq-REFERENCE_DIGITS
+unfolding is_reference
+returns-else-s-eq-REFERENCE_DIGITS c = grind (arith, common_steps)

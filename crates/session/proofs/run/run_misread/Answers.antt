@@ -1,6 +1,0 @@
--- Number 12, and nothing changed.
-use Rattle.session.proofs.Running.{ran_misread}
-use Rattle.session.proofs.run.run_misread.Goals as goal
-
-pub returns : goal.returns
-returns c = ran_misread c.print_reply.ensures
