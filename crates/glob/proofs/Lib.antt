@@ -1,5 +1,6 @@
 -- Laws that belong to no function. They are for the proofs of crate matcher too.
 pub mod Parts
+pub mod Places
 pub mod Skips
 pub mod Trials
 pub mod Cuts

@@ -3,19 +3,25 @@
 use mathlib.Core.Path.{◌≡◌, refl, sym, ap, subst, ◌∙◌}
 use mathlib.Core.List.{List, [], ◌∷◌}
 use mathlib.Core.Bool.{Bool, true, false, cond, ◌&&◌, ◌||◌}
-use Prim.Native.Nat.{ℕ, ◌+◌, ◌<◌, ◌≤◌}
+use mathlib.Core.Logic.{⊎_elim}
+use Prim.Native.Nat.{ℕ, ◌+◌, ◌-◌, ◌<◌, ◌≤◌}
 use native.Mathlib.Omega.{arith}
 use lib.ListN.{length, get_or}
 use lib.Dec.{eqb}
+use lib.Seq.{get_or-drop}
 use borrow.Author.Tests.{eq-eqb, ne_eqb}
+use Rattle.std.specs.Prelude.{nat_eq}
+use Rattle.std.specs.List.{position_or_len}
+use Rattle.std.proofs.lemmas.Bool.{cases_lt}
+use Rattle.std.proofs.lemmas.List.Sums.{fails_before_first}
 use Rattle.buffer.specs.Lists.{none}
 use Rattle.glob.specs.Bytes.{star}
 use Rattle.glob.specs.Fit.{after_some, first, fit, fits_label}
-use Rattle.glob.specs.Inner.{Says, is_fit, Alike, OffLabel}
+use Rattle.glob.specs.Inner.{Says, is_fit, Alike, Skipped, OffLabel}
 use Rattle.glob.specs.declared.fit.Trial.{Trial}
 use Rattle.glob.specs.declared.fit.Trial.TheVariants.{Fits, Fails, Never}
-use Rattle.buffer.proofs.Tests.{and_false, or_false, or_left, or_left_false, or_right_false}
-use Rattle.glob.proofs.Parts.{rest, split, back, back_all, back_step, back_back, back_end, no_items}
+use Rattle.buffer.proofs.Tests.{not_both, and_false, or_false, or_left, or_left_false, or_right_false}
+use Rattle.glob.proofs.Parts.{tail_part, rest, split, back, back_all, back_step, back_back, back_end, no_items}
 
 -- where k never holds, it does not hold now
 never_now : {B : Type 0} (k : List B → Bool) (s : List B) → after_some k s ≡ false → k s ≡ false
@@ -167,3 +173,14 @@ alike_first p s n r f w g e a h =
     let behind = subst (λ (q : List ℕ). Says (fits_label q) (back (rest s) n) r) (sym (back_back p 1 n)) (subst (λ (l : List ℕ). Says (fits_label (back p (1 + n))) l r) (sym (back_back s 1 n)) h) in
     subst (λ (q : List ℕ → Bool). Says q s r) (sym (byte_law p f w))
     (subst (λ (l : List ℕ). Says (first (eqb (get_or p 0 0)) k) l r) (sym (split s g)) (first_on k (eqb (get_or p 0 0)) (get_or s 0 0) (rest s) r (eq-eqb _ _ e) (a.passes r behind)))
+
+-- the bytes passed over are others than that with which p, a label of a pattern, begins
+pub passed : (p s : List ℕ) → (length p ≡ 0 → ⊥) → (get_or p 0 0 ≡ star → ⊥) → (from m r : ℕ) → m ≡ position_or_len (λ b. nat_eq b (get_or p 0 0)) (back s from)
+    → from ≤ r → r ≤ length s + 1 → ((i : ℕ) → i < r → i < length s → i < from + m) → Skipped (OffLabel p s) (length s) from r
+passed p s f w from m r e l h g = record { low = l; high = h; each = λ i a b. ⊎_elim (λ (x : i < length s). off_here p s f w i x (other i a (g i b x))) (λ (x : length s ≤ i). off_end p s f w i x) (cases_lt i (length s)) }
+  where
+    other : (i : ℕ) → from ≤ i → i < from + m → get_or s i 0 ≡ get_or p 0 0 → ⊥
+    other i a b z =
+        let k : from + (i - from) ≡ i = omega arith in
+        let at : get_or (back s from) (i - from) 0 ≡ get_or s i 0 = ap (λ (t : List ℕ). get_or t (i - from) 0) (tail_part from s) ∙ get_or-drop from s (i - from) 0 ∙ ap (λ (j : ℕ). get_or s j 0) k in
+        not_both (eq-eqb _ _ (at ∙ z)) (fails_before_first (λ c. nat_eq c (get_or p 0 0)) (back s from) (i - from) 0 (omega (arith, e)))

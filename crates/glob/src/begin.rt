@@ -12,19 +12,12 @@ use crate::split::{is_deep, next_slash};
 fn label_begins(p: &[u8], k: &[u8]) -> bool
     ensures { result ≡ begins_label p.now k.now }
 {
-    if p.len() == 0 {
-        return k.len() == 0;
+    match (p.first(), k.first()) {
+        (None, _) => k.is_empty(),
+        (Some(&STAR), _) => true,
+        (Some(_), None) => true,
+        (Some(c), Some(d)) => c == d && label_begins(&p[1..], &k[1..]),
     }
-    if k.len() == 0 {
-        return true;
-    }
-    if p[0] == STAR {
-        return true;
-    }
-    if p[0] == k[0] {
-        return label_begins(&p[1..], &k[1..]);
-    }
-    false
 }
 
 // Can labels, of which the last may go on, fit the pattern that remains?
@@ -32,8 +25,8 @@ fn labels_begin(pattern: &[u8], known: &[u8]) -> bool
     requires { Begun pattern.now × Begun known.now }
     ensures { result ≡ begins_labels (labels_of pattern.now) (labels_of known.now) }
 {
-    if pattern.len() == 0 {
-        return known.len() == 0;
+    if pattern.is_empty() {
+        return known.is_empty();
     }
     if known.len() < 2 {
         return true; // at most a `/` is known, and any label may follow
@@ -46,10 +39,7 @@ fn labels_begin(pattern: &[u8], known: &[u8]) -> bool
     if b == known.len() {
         return label_begins(&pattern[1..a], &known[1..b]);
     }
-    if label_fits(&pattern[1..a], &known[1..b]) {
-        return labels_begin(&pattern[a..], &known[b..]);
-    }
-    false
+    label_fits(&pattern[1..a], &known[1..b]) && labels_begin(&pattern[a..], &known[b..])
 }
 
 // Is the first label of a pattern a `**`, with others behind it? Then any labels can go on to fit. Four bytes tell, without a label being cut off: a search
@@ -57,17 +47,7 @@ fn labels_begin(pattern: &[u8], known: &[u8]) -> bool
 fn leads_deep(pattern: &[u8]) -> bool
     ensures { result ≡ true → (ks : List (List ℕ)) → begins_labels (labels_of pattern.now) ks ≡ true }
 {
-    if pattern.len() < 4 {
-        return false;
-    }
-    if pattern[1] == STAR {
-        if pattern[2] == STAR {
-            if pattern[3] == SLASH {
-                return pattern[0] == SLASH;
-            }
-        }
-    }
-    false
+    pattern.starts_with(b"/**/")
 }
 
 // Can labels, of which the last may go on, fit those of a pattern? Nothing is checked: of any bytes it answers by their labels, which begin at

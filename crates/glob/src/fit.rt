@@ -8,7 +8,7 @@ ghost use Rattle.glob.specs.Fit.{after_some, first, fits_label, fit_labels, fits
 ghost use Rattle.glob.specs.Inner.{Says, is_fit, Alike, Skipped, OffLabel, OffLabels, Begun, Single, AlikeLabels};
 
 use crate::bytes::{SLASH, STAR};
-use crate::split::{is_deep, last_label, next_slash};
+use crate::split::{bytes_before, is_deep, last_label, next_slash};
 
 // `Never`: it fails now, and also once any of the first bytes (or labels) are taken away.
 #[derive(Clone, Copy)]
@@ -18,13 +18,11 @@ pub(crate) enum Trial {
     Never,
 }
 
-fn is_fit(r: Trial) -> bool
-    ensures { result ≡ is_fit r }
-{
-    match r {
-        Trial::Fits => true,
-        Trial::Fails => false,
-        Trial::Never => false,
+impl Trial {
+    fn is_fit(self) -> bool
+        ensures { result ≡ is_fit self }
+    {
+        matches!(self, Trial::Fits)
     }
 }
 
@@ -32,20 +30,13 @@ fn is_fit(r: Trial) -> bool
 fn alike(p: &[u8], s: &[u8]) -> usize
     ensures { Alike p.now s.now result }
 {
-    let mut i = 0;
-    while i < p.len() {
-        if p[i] == STAR {
+    let n = p.len().min(s.len());
+    for i in 0..n {
+        if p[i] == STAR || p[i] != s[i] {
             return i;
         }
-        if s.len() <= i {
-            return i;
-        }
-        if p[i] != s[i] {
-            return i;
-        }
-        i += 1;
     }
-    i
+    n
 }
 
 // The next place, from one on, at which the rest of a label may fit a label of a pattern: it begins with the same byte, or the pattern with
@@ -55,15 +46,12 @@ fn next_try(p: &[u8], s: &[u8], from: usize) -> usize
     ensures { Skipped (OffLabel p.now s.now) (length s.now) from result }
 {
     let c = p[0];
-    if c == STAR {
+    if c == STAR || s.len() <= from {
         return from;
     }
-    let mut i = from;
-    while i < s.len() {
-        if s[i] == c {
-            return i;
-        }
-        i += 1;
+    let i = from + bytes_before(&s[from..], c);
+    if i < s.len() {
+        return i;
     }
     s.len() + 1
 }
@@ -73,23 +61,17 @@ fn next_try(p: &[u8], s: &[u8], from: usize) -> usize
 fn label(p: &[u8], s: &[u8]) -> Trial
     ensures { Says (fits_label p.now) s.now result }
 {
-    if p.len() == 0 {
-        if s.len() == 0 {
-            return Trial::Fits;
+    match (p.first(), s.first()) {
+        (None, None) => Trial::Fits,
+        (None, Some(_)) => Trial::Fails,
+        (Some(&STAR), _) => after_star(&p[1..], s),
+        (Some(_), None) => Trial::Never,
+        (Some(a), Some(b)) if a == b => {
+            let n = 1 + alike(&p[1..], &s[1..]);
+            label(&p[n..], &s[n..])
         }
-        return Trial::Fails;
+        (Some(_), Some(_)) => Trial::Fails,
     }
-    if p[0] == STAR {
-        return after_star(&p[1..], s);
-    }
-    if s.len() == 0 {
-        return Trial::Never;
-    }
-    if p[0] == s[0] {
-        let n = 1 + alike(&p[1..], &s[1..]);
-        return label(&p[n..], &s[n..]);
-    }
-    Trial::Fails
 }
 
 // Tries a label against `*` and the pattern that remains. `*` takes one byte more, or several, in each turn.
@@ -97,18 +79,15 @@ fn label(p: &[u8], s: &[u8]) -> Trial
 fn after_star(p: &[u8], s: &[u8]) -> Trial
     ensures { Says (after_some (fits_label p.now)) s.now result }
 {
-    if p.len() == 0 {
+    if p.is_empty() {
         return Trial::Fits; // a last `*` takes all bytes that are left
     }
     let mut i = next_try(p, s, 0);
     while i <= s.len() {
-        let r = label(p, &s[i..]);
-        match r {
+        match label(p, &s[i..]) {
             Trial::Fits => return Trial::Fits,
             Trial::Never => return Trial::Never,
-            Trial::Fails => {
-                i = next_try(p, s, i + 1);
-            }
+            Trial::Fails => i = next_try(p, s, i + 1),
         }
     }
     Trial::Never // `*` has taken all bytes
@@ -118,7 +97,7 @@ fn after_star(p: &[u8], s: &[u8]) -> Trial
 pub fn label_fits(p: &[u8], s: &[u8]) -> bool
     ensures { result ≡ fits_label p.now s.now }
 {
-    is_fit(label(p, s))
+    label(p, s).is_fit()
 }
 
 // Do the first labels begin with different bytes, and the pattern's with no `*`? Then it does not fit, and no label has to be cut off.
@@ -126,16 +105,7 @@ fn begin_unlike(pattern: &[u8], path: &[u8]) -> bool
     requires { Begun pattern.now × Begun path.now }
     ensures { result ≡ true → fit_labels (labels_of pattern.now) (labels_of path.now) ≡ false }
 {
-    if pattern.len() < 2 {
-        return false;
-    }
-    if path.len() < 2 {
-        return false;
-    }
-    if pattern[1] == STAR {
-        return false;
-    }
-    pattern[1] != path[1]
+    pattern.len() > 1 && path.len() > 1 && pattern[1] != STAR && pattern[1] != path[1]
 }
 
 // How many bytes may be passed over at once, since a pattern and a path begin with the same whole labels there, none with a `*`? 0 where none are, and
@@ -145,8 +115,7 @@ fn equal_labels(pattern: &[u8], path: &[u8]) -> usize
     ensures { AlikeLabels pattern.now path.now result }
 {
     let mut n = 0;
-    let mut i = 1;
-    while i < pattern.len() {
+    for i in 1..pattern.len() {
         if path.len() <= i {
             return n;
         }
@@ -159,7 +128,6 @@ fn equal_labels(pattern: &[u8], path: &[u8]) -> usize
         if pattern[i] == SLASH { // both labels end
             n = i;
         }
-        i += 1;
     }
     path.len() // the pattern has ended: so has the path, or it does not fit
 }
@@ -170,8 +138,8 @@ fn labels(pattern: &[u8], path: &[u8]) -> Trial
     requires { Begun pattern.now × Begun path.now }
     ensures { Says (fit_labels (labels_of pattern.now)) (labels_of path.now) result }
 {
-    if pattern.len() == 0 {
-        if path.len() == 0 {
+    if pattern.is_empty() {
+        if path.is_empty() {
             return Trial::Fits;
         }
         return Trial::Fails; // but a `**` before may take more labels
@@ -190,19 +158,14 @@ fn labels(pattern: &[u8], path: &[u8]) -> Trial
     if is_deep(&pattern[1..a]) {
         return descend(&pattern[a..], path);
     }
-    if path.len() == 0 {
+    if path.is_empty() {
         return Trial::Never;
     }
     let b = next_slash(path, 1);
     if !label_fits(&pattern[1..a], &path[1..b]) {
         return Trial::Fails; // but a `**` before may take this label and try the next
     }
-    // the answer for the rest is the answer, each for its own reason
-    match labels(&pattern[a..], &path[b..]) {
-        Trial::Fits => Trial::Fits,
-        Trial::Fails => Trial::Fails, // but a `**` before may take this label, though it fits, and try the next
-        Trial::Never => Trial::Never,
-    }
+    labels(&pattern[a..], &path[b..]) // where this fails, a `**` before may take this label, though it fits, and try the next
 }
 
 // Does a label begin at i, and with the byte c? Most bytes are not c, so this is asked first.
@@ -210,10 +173,7 @@ fn begins_with(path: &[u8], i: usize, c: u8) -> bool
     requires { i + 1 < length path.now }
     ensures { result ≡ eqb (get_or path.now (i + 1) 0) c && eqb (get_or path.now i 0) slash }
 {
-    if path[i + 1] == c {
-        return path[i] == SLASH;
-    }
-    false
+    path[i + 1] == c && path[i] == SLASH
 }
 
 // The next place, from one on, at which the rest of a path may fit a pattern. Where the pattern's first label begins with a byte of its own, that
@@ -222,22 +182,13 @@ fn next_begin(pattern: &[u8], path: &[u8], from: usize) -> usize
     requires { Begun pattern.now × (from ≤ length path.now + 1) }
     ensures { Skipped (OffLabels (labels_of pattern.now) path.now) (length path.now) from result × Begun (take (length path.now - result) (drop result path.now)) }
 {
-    if pattern.len() < 2 {
+    if pattern.len() < 2 || pattern[1] == STAR || pattern[1] == SLASH {
         return next_slash(path, from);
     }
-    let c = pattern[1];
-    if c == STAR {
-        return next_slash(path, from);
-    }
-    if c == SLASH {
-        return next_slash(path, from);
-    }
-    let mut i = from;
-    while i + 1 < path.len() {
-        if begins_with(path, i, c) {
+    for i in from..path.len().saturating_sub(1) {
+        if begins_with(path, i, pattern[1]) {
             return i;
         }
-        i += 1;
     }
     path.len() + 1
 }
@@ -247,13 +198,7 @@ fn is_single(pattern: &[u8]) -> bool
     requires { Begun pattern.now }
     ensures { result ≡ true → Single pattern.now }
 {
-    if pattern.len() == 0 {
-        return false;
-    }
-    if next_slash(pattern, 1) < pattern.len() {
-        return false;
-    }
-    !is_deep(&pattern[1..])
+    !pattern.is_empty() && next_slash(pattern, 1) == pattern.len() && !is_deep(&pattern[1..])
 }
 
 // Tries a path against `**` and a last label, which is not `**`: it takes the path's last label, and `**` all before.
@@ -276,7 +221,7 @@ fn descend(pattern: &[u8], path: &[u8]) -> Trial
     requires { Begun pattern.now × Begun path.now }
     ensures { Says (after_some (fit_labels (labels_of pattern.now))) (labels_of path.now) result }
 {
-    if pattern.len() == 0 { // the `**` is the last label
+    if pattern.is_empty() { // the `**` is the last label
         return Trial::Fits; // it takes all labels that are left
     }
     if is_single(pattern) {
@@ -284,13 +229,10 @@ fn descend(pattern: &[u8], path: &[u8]) -> Trial
     }
     let mut b = next_begin(pattern, path, 0);
     while b <= path.len() {
-        let r = labels(pattern, &path[b..]);
-        match r {
+        match labels(pattern, &path[b..]) {
             Trial::Fits => return Trial::Fits,
             Trial::Never => return Trial::Never,
-            Trial::Fails => {
-                b = next_begin(pattern, path, b + 1);
-            }
+            Trial::Fails => b = next_begin(pattern, path, b + 1),
         }
     }
     Trial::Never // `**` has taken all labels
@@ -303,5 +245,5 @@ pub fn fits_formed(pattern: &[u8], path: &[u8]) -> bool
 {
     let a = next_slash(pattern, 0);
     let b = next_slash(path, 0);
-    is_fit(labels(&pattern[a..], &path[b..]))
+    labels(&pattern[a..], &path[b..]).is_fit()
 }

@@ -1,5 +1,6 @@
 // Where a label begins or ends, and how many there are.
-ghost use Rattle.std.specs.Prelude.{◌≡◌, ◌+◌, ◌-◌, ◌≤◌, length, drop, get_or};
+ghost use Rattle.std.specs.Prelude.{◌≡◌, ◌+◌, ◌-◌, ◌≤◌, length, drop, get_or, ◌==◌};
+ghost use Rattle.std.specs.List.{position_or_len};
 ghost use Rattle.glob.specs.Bytes.{slash};
 ghost use Rattle.glob.specs.Labels.{up_to_slash, labels_of, deep};
 
@@ -9,38 +10,35 @@ use crate::bytes::{SLASH, STAR};
 pub fn byte_at(s: &[u8], i: usize) -> u8
     ensures { result ≡ get_or s.now i 0 }
 {
-    if i < s.len() {
-        return s[i];
-    }
-    0
+    s.get(i).copied().unwrap_or(0)
+}
+
+// How many bytes stand before the first c: all, where there is none.
+pub fn bytes_before(s: &[u8], c: u8) -> usize
+    ensures value { result ≡ position_or_len (λ b. b == c) s.now }
+    ensures bound { result ≤ length s.now }
+{
+    s.iter().position(|b| *b == c).unwrap_or(s.len())
 }
 
 // Where is the first `/` from a place on? Where there is none, the end; and a place behind the end is its own answer.
 pub fn next_slash(s: &[u8], from: usize) -> usize
     ensures { (result ≡ from + length (up_to_slash (drop from s.now))) × (result ≤ from + (length s.now - from)) }
 {
-    let mut i = from;
-    while i < s.len() {
-        if s[i] == SLASH { // the label ends
-            return i;
-        }
-        i += 1;
+    if s.len() <= from {
+        return from;
     }
-    i
+    from + bytes_before(&s[from..], SLASH)
 }
 
 // Where does the last label begin: behind the last `/`? Where there is none, 0.
 pub(crate) fn last_label(s: &[u8]) -> usize
     ensures { (result + length (up_to_slash (drop result s.now)) ≡ length s.now) × ((result ≡ 0 → ⊥) → get_or s.now (result - 1) 0 ≡ slash) }
 {
-    let mut i = s.len();
-    while i > 0 {
-        if s[i - 1] == SLASH {
-            return i;
-        }
-        i -= 1;
+    match s.iter().rposition(|b| *b == SLASH) {
+        Some(i) => i + 1,
+        None => 0,
     }
-    i
 }
 
 // How many labels are there: how many `/`?
@@ -48,12 +46,10 @@ pub fn label_count(s: &[u8]) -> usize
     ensures { result ≡ length (labels_of s.now) }
 {
     let mut n: usize = 0;
-    let mut i = 0;
-    while i < s.len() {
-        if s[i] == SLASH {
+    for b in s {
+        if *b == SLASH {
             n += 1;
         }
-        i += 1;
     }
     n
 }
@@ -62,10 +58,5 @@ pub fn label_count(s: &[u8]) -> usize
 pub fn is_deep(l: &[u8]) -> bool
     ensures { result ≡ deep l.now }
 {
-    if l.len() == 2 {
-        if l[0] == STAR {
-            return l[1] == STAR;
-        }
-    }
-    false
+    matches!(l, [STAR, STAR])
 }

@@ -2,12 +2,16 @@
 use mathlib.Core.Path.{◌≡◌, refl, sym, ap, ap₂, subst, ◌∙◌}
 use mathlib.Core.List.{List, [], ◌∷◌, ◌++◌}
 use mathlib.Core.Bool.{Bool, true, false, not, ◌&&◌, ◌||◌}
-use Prim.Native.Nat.{ℕ, suc, ◌+◌, ◌-◌, ◌<◌, ◌≤◌}
+use Prim.Native.Nat.{ℕ, zero, suc, min, ◌+◌, ◌-◌, ◌<◌, ◌≤◌}
 use native.Mathlib.Omega.{arith}
-use lib.ListN.{length, take, drop, get_or, length-take, length-drop, drop_of_length-le}
+use Rattle.std.specs.Prelude.{nat_eq}
+use Rattle.std.specs.List.{position_or_len}
+use Rattle.std.proofs.lemmas.List.Sums.{fails_before_first, prefix_len-le-length}
+use lib.ListN.{length, take, drop, get_or, length-take, length-drop}
 use lib.Seq.{length-take-le, take-take, take-add, drop-drop, drop-length}
 use lib.Dec.{eqb}
-use borrow.Author.Tests.{eqb-true, ne_eqb}
+use lib.Pointwise.{pointwise}
+use borrow.Author.Tests.{eq-eqb, eqb-true, ne_eqb}
 use Rattle.buffer.proofs.Tests.{not_both, and_left, and_right}
 use Rattle.glob.specs.Bytes.{slash, star}
 use Rattle.glob.specs.Labels.{up_to_slash, labels_of, deep}
@@ -48,6 +52,20 @@ plain_on l i h f a = record {
       let behind : drop (i + 1) k ≡ g.tail = sym (drop-drop 1 i k) ∙ ap (drop 1) g.are in
       (take-add i 1 k ∙ ap₂ ◌++◌ was.0 next ∙ sym (take-add i 1 l), ap (fits_label (drop (i + 1) l)) behind ∙ g.holds);
 }
+
+-- none of the first n bytes is a `*`
+pub plain_before : (l : List ℕ) (n : ℕ) → n ≡ position_or_len (λ b. nat_eq b star) l → Plain l n
+plain_before l n e = go n (omega (arith, e))
+  where
+    in_list : position_or_len (λ b. nat_eq b star) l ≤ length l
+    in_list = prefix_len-le-length (λ b. not (nat_eq b star)) l
+
+    go : (k : ℕ) → k ≤ position_or_len (λ b. nat_eq b star) l → Plain l k
+    go zero h = plain_none l
+    go (suc k) h =
+        let in_l : k < length l = omega (arith, in_list) in
+        let no = fails_before_first (λ b. nat_eq b star) l k 0 (omega arith) in
+        subst (Plain l) (omega arith) (plain_on l k in_l (λ z. not_both (eq-eqb _ _ z) no) (go k (omega arith)))
 
 -- no label of a pattern left takes no label
 fits_none : (k : List ℕ) → fits_label [] k ≡ true → length k ≡ 0
@@ -174,19 +192,15 @@ module _ (pattern : List ℕ) (a r n : ℕ) (l : a < length pattern) (h : Led pa
             (x.bytes, (x.rest all).0, (x.rest all).1);
       })
 
--- two lists that are alike up to place i: what is left of them decides
-abbrev pub Undecided : List ℕ → List ℕ → ℕ → Type 0
-Undecided a b i = differs a b ≡ differs (drop i a) (drop i b)
-
-pub differs_on : (a b : List ℕ) (i : ℕ) → i < length a → i < length b → differs (drop i a) (drop i b) ≡ not (eqb (get_or a i 0) (get_or b i 0)) || differs (drop (i + 1) a) (drop (i + 1) b)
-differs_on a b i l m = ap₂ differs (step a i l) (step b i m)
-
-pub differs_end : (a b : List ℕ) (i : ℕ) → length a ≤ i → differs (drop i a) (drop i b) ≡ false
-differs_end a b i l = ap (λ (t : List ℕ). differs t (drop i b)) (drop_of_length-le a l)
-
-pub differs_short : (a b : List ℕ) (i : ℕ) → length b ≤ i → differs (drop i a) (drop i b) ≡ false
-differs_short a b i l = ap (differs (drop i a)) (drop_of_length-le b l) ∙ go (drop i a)
+-- lists differ where as many bytes of each do as the shorter one has
+pub differs_cut : (a b : List ℕ) (n : ℕ) → n ≡ min (length a) (length b) → not (pointwise eqb (take n a) (take n b)) ≡ differs a b
+differs_cut [] b zero e = refl
+differs_cut [] b (suc n) e = absurd (omega arith)
+differs_cut (c ∷ a) [] zero e = refl
+differs_cut (c ∷ a) [] (suc n) e = absurd (omega arith)
+differs_cut (c ∷ a) (x ∷ b) zero e = absurd (omega arith)
+differs_cut (c ∷ a) (x ∷ b) (suc n) e = go (eqb c x) (differs_cut a b n (omega arith))
   where
-    go : (a : List ℕ) → differs a [] ≡ false
-    go [] = refl
-    go (c ∷ a) = refl
+    go : (y : Bool) → not (pointwise eqb (take n a) (take n b)) ≡ differs a b → not (y && pointwise eqb (take n a) (take n b)) ≡ not y || differs a b
+    go true h = h
+    go false h = refl

@@ -3,7 +3,7 @@ ghost use Rattle.std.specs.Prelude.{◌≡◌};
 ghost use Rattle.glob_prefix.specs.Prefix.{LiteralPrefix, differs, Plain};
 
 use glob::bytes::{SLASH, STAR};
-use glob::split::{byte_at, is_deep, next_slash};
+use glob::split::{bytes_before, is_deep, next_slash};
 
 // So many bytes tell nearly all paths apart that more would; to find more takes longer than it spares.
 const ENOUGH: usize = 16;
@@ -12,14 +12,7 @@ const ENOUGH: usize = 16;
 fn plain_length(l: &[u8]) -> usize
     ensures { Plain l.now result }
 {
-    let mut i = 0;
-    while i < l.len() {
-        if l[i] == STAR {
-            return i;
-        }
-        i += 1;
-    }
-    i
+    bytes_before(l, STAR)
 }
 
 // How many bytes stand before the first `*`, at most some labels with ENOUGH? The `/` of a `**` is not among them, since that may take no
@@ -27,7 +20,7 @@ fn plain_length(l: &[u8]) -> usize
 pub fn literal_prefix(pattern: &[u8]) -> usize
     ensures { LiteralPrefix pattern.now result }
 {
-    if byte_at(pattern, 0) != SLASH {
+    if pattern.first() != Some(&SLASH) {
         return 0;
     }
     let mut a = 0;
@@ -49,18 +42,10 @@ pub fn literal_prefix(pattern: &[u8]) -> usize
 }
 
 // Do two stretches differ at a place that both have?
+#[tactic(auto, using(crate::proofs::Leading::differs_cut))]
 pub fn differs(a: &[u8], b: &[u8]) -> bool
     ensures { result ≡ differs a.now b.now }
 {
-    let mut i = 0;
-    while i < a.len() {
-        if b.len() <= i {
-            return false; // the other has no byte there
-        }
-        if a[i] != b[i] {
-            return true;
-        }
-        i += 1;
-    }
-    false
+    let n = a.len().min(b.len());
+    a[..n] != b[..n]
 }

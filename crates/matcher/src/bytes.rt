@@ -3,7 +3,6 @@ ghost use Rattle.std.specs.Prelude.{◌≡◌};
 ghost use Rattle.matcher.specs.Bytes.{label_byte};
 
 use crate::marks::LABEL_BYTES;
-use crate::runs::marked;
 
 // `/` begins a label, `*` and `**` are wild, and END follows a path inside the index.
 pub use glob::bytes::{SLASH, STAR};
@@ -20,6 +19,5 @@ pub const PATTERN_LABEL_LIMIT: usize = 32;
 pub fn label_byte(b: u8) -> bool
     ensures { result ≡ label_byte b }
 {
-    let marks = LABEL_BYTES;
-    marked(&marks, b)
+    LABEL_BYTES[b as usize] == 1
 }

@@ -2,15 +2,13 @@
 ghost use Rattle.std.specs.Prelude.{◌≡◌};
 ghost use Rattle.buffer.specs.Lists.{all};
 ghost use Rattle.glob.specs.Inner.{Begun};
-ghost use Rattle.matcher.specs.Bytes.{Marks};
 ghost use Rattle.matcher.specs.Labels.{labels_of};
 ghost use Rattle.matcher.specs.Form.{pattern_label, formed_path, formed_pattern, path_form, pattern_form, path_number, pattern_number};
 ghost use Rattle.matcher.specs.Reach.{begins_path};
 
 use crate::bytes::{PATH_LIMIT, PATTERN_LABEL_LIMIT, SLASH, STAR};
-use crate::marks::LABEL_BYTES;
 use crate::runs::are_apart;
-use glob::split::{byte_at, is_deep, label_count, next_slash};
+use glob::split::{is_deep, label_count, next_slash};
 
 // Why a path or a pattern is turned down. `TooLong`: over 200 bytes, or a pattern with over 32 `/`.
 #[derive(Clone, Copy, PartialEq, Eq, Debug)]
@@ -41,34 +39,22 @@ pub fn pattern_number(form: Result<(), FormError>) -> u64
 }
 
 // Do these bytes begin a path?
+#[tactic(auto, unfolding(crate::specs::Bytes::label_byte))]
 pub(crate) fn begins_path(known: &[u8]) -> bool
     ensures { result ≡ begins_path known.now }
 {
-    if known.len() == 0 {
-        return true;
-    }
-    if known[0] == SLASH {
-        if known.len() == 1 {
-            return true; // no table is needed
-        }
-        let marks = LABEL_BYTES;
-        return are_apart(&marks, known, SLASH);
-    }
-    false
+    known.is_empty() || known[0] == SLASH && are_apart(known, SLASH)
 }
 
 // Is this a path, of any length? One that ends with `/` has an empty label.
 pub(crate) fn is_path(path: &[u8]) -> bool
     ensures { result ≡ formed_path path.now }
 {
-    let n = path.len();
-    if n == 0 {
-        return false;
+    match path.last() {
+        None => false,
+        Some(&SLASH) => false,
+        Some(_) => begins_path(path),
     }
-    if path[n - 1] == SLASH {
-        return false;
-    }
-    begins_path(path)
 }
 
 // The form of a path: length first, then its labels.
@@ -85,28 +71,22 @@ pub fn check_path(path: &[u8]) -> Result<(), FormError>
 }
 
 // Is a label of a pattern formed?
-fn is_pattern_label(marks: &[u8; 256], l: &[u8]) -> bool
-    requires { Marks marks.now }
+#[tactic(auto, unfolding(crate::specs::Bytes::label_byte))]
+fn is_pattern_label(l: &[u8]) -> bool
     ensures { result ≡ pattern_label l.now }
 {
-    if l.len() == 0 {
-        return false;
-    }
-    if is_deep(l) {
-        return true;
-    }
-    are_apart(marks, l, STAR)
+    !l.is_empty() && (is_deep(l) || are_apart(l, STAR))
 }
 
 // Is each label of a pattern formed?
-fn are_pattern_labels(marks: &[u8; 256], pattern: &[u8]) -> bool
-    requires { Marks marks.now × Begun pattern.now }
+fn are_pattern_labels(pattern: &[u8]) -> bool
+    requires { Begun pattern.now }
     ensures { result ≡ all pattern_label (labels_of pattern.now) }
 {
     let mut a = 0;
     while a < pattern.len() {
         let b = next_slash(pattern, a + 1);
-        if !is_pattern_label(marks, &pattern[a + 1..b]) {
+        if !is_pattern_label(&pattern[a + 1..b]) {
             return false;
         }
         a = b;
@@ -118,11 +98,7 @@ fn are_pattern_labels(marks: &[u8; 256], pattern: &[u8]) -> bool
 fn is_pattern(pattern: &[u8]) -> bool
     ensures { result ≡ formed_pattern pattern.now }
 {
-    if byte_at(pattern, 0) == SLASH {
-        let marks = LABEL_BYTES;
-        return are_pattern_labels(&marks, pattern);
-    }
-    false
+    pattern.first() == Some(&SLASH) && are_pattern_labels(pattern)
 }
 
 // The form of a pattern: too long, or of too many labels, comes before malformed. A label takes its `/` and at least one byte, so a formed pattern of few
@@ -134,10 +110,8 @@ pub fn check_pattern(pattern: &[u8]) -> Result<(), FormError>
         return Err(FormError::TooLong);
     }
     let formed = is_pattern(pattern);
-    if formed {
-        if pattern.len() / 2 <= PATTERN_LABEL_LIMIT {
-            return Ok(());
-        }
+    if formed && pattern.len() / 2 <= PATTERN_LABEL_LIMIT {
+        return Ok(());
     }
     if PATTERN_LABEL_LIMIT < label_count(pattern) {
         return Err(FormError::TooLong);

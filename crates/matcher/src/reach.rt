@@ -14,7 +14,7 @@ use glob_prefix::prefix::differs;
 pub use glob_prefix::prefix::literal_prefix;
 
 // What the bytes known of a path say of a pattern.
-#[derive(Clone, Copy)]
+#[derive(Clone, Copy, PartialEq, Eq, Debug)]
 pub enum Answer {
     Match,
     Mismatch,
@@ -25,11 +25,7 @@ pub enum Answer {
 fn is_ended(known: &[u8]) -> bool
     ensures { result ≡ ended known.now }
 {
-    let n = known.len();
-    if n == 0 {
-        return false;
-    }
-    known[n - 1] == END
+    known.last() == Some(&END)
 }
 
 // Do the bytes known begin a path, or are they a path and its end byte?
@@ -37,7 +33,7 @@ fn is_first(known: &[u8]) -> bool
     ensures { result ≡ is_first known.now }
 {
     if is_ended(known) {
-        return is_path(&known[0..known.len() - 1]);
+        return is_path(&known[..known.len() - 1]);
     }
     begins_path(known)
 }
@@ -47,7 +43,7 @@ fn reach_labels(pattern: &[u8], known: &[u8]) -> Answer
     ensures { result ≡ reach_labels pattern.now known.now }
 {
     if is_ended(known) {
-        if fits_formed(pattern, &known[0..known.len() - 1]) {
+        if fits_formed(pattern, &known[..known.len() - 1]) {
             return Answer::Match;
         }
         return Answer::Mismatch; // it does not fit
@@ -63,13 +59,11 @@ fn reach_labels(pattern: &[u8], known: &[u8]) -> Answer
 pub fn reach_from(pattern: &[u8], literal: usize, known: &[u8]) -> Answer
     ensures { is_fine (pattern_form pattern.now) ≡ true → LiteralPrefix pattern.now literal → FirstBytes known.now → result ≡ reach_of pattern.now known.now }
 {
-    if known.len() <= literal {
-        if literal <= pattern.len() {
-            if differs(&pattern[0..literal], known) {
-                return Answer::Mismatch; // no path that fits begins so
-            }
-            return Answer::Incomplete; // any does
+    if known.len() <= literal && literal <= pattern.len() {
+        if differs(&pattern[..literal], known) {
+            return Answer::Mismatch; // no path that fits begins so
         }
+        return Answer::Incomplete; // any does
     }
     reach_labels(pattern, known)
 }
@@ -93,11 +87,8 @@ pub fn reach(pattern: &[u8], known: &[u8]) -> Answer
 pub fn ruled_out(pattern: &[u8], literal: usize, p: usize, s: &[u8]) -> bool
     ensures { RuledOut pattern.now literal p s.now result }
 {
-    if literal <= p {
+    if literal <= p || pattern.len() < literal {
         return false; // the pattern may be wild there
-    }
-    if pattern.len() < literal {
-        return false;
     }
     differs(&pattern[p..literal], s)
 }

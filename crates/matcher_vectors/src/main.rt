@@ -3,25 +3,20 @@
 // answers of a second program. A line that begins with `#` is a comment.
 #![tactic(auto)]
 
-ghost use Rattle.std.specs.Prelude.{◌≡◌, ◌≤◌, ◌<◌, length, take};
+ghost use Rattle.std.specs.Prelude.{◌≤◌, ◌<◌, length};
 
 use console::Console;
-use matcher::reach::Answer;
+use matcher::fit::fits;
+use matcher::form::{check_path, check_pattern, path_number, pattern_number};
+use matcher::reach::{Answer, reach};
 use std::io;
 
-// Where `byte` first stands at or after `from`, or the length.
-fn find(text: &[u8], from: usize, byte: u8) -> usize
-    requires { from ≤ length text.now }
-    ensures { (from ≤ result) × (result ≤ length text.now) }
-{
-    let mut i = from;
-    while i < text.len() {
-        if text[i] == byte {
-            return i;
-        }
-        i += 1;
+// What stands before the first space, and what stands behind it.
+fn split_word(text: &[u8]) -> (&[u8], &[u8]) {
+    match text.iter().position(|b| *b == b' ') {
+        Some(i) => (&text[..i], &text[i + 1..]),
+        None => (text, &[]),
     }
-    i
 }
 
 fn digit(b: u8) -> u8
@@ -35,91 +30,49 @@ fn digit(b: u8) -> u8
 
 // The bytes of a text of two digits for each; one digit left over, as `-`, is no byte.
 fn decode(text: &[u8], out: &mut [u8]) -> usize
-    ensures { (result ≤ length out.new) × (result ≡ length (take result out.new)) }
+    ensures { result ≤ length out.new }
 {
-    let pairs = text.len() / 2;
-    let mut n: usize = 0;
-    while n < pairs {
-        if out.len() <= n {
-            return n;
-        }
-        out[n] = digit(text[2 * n]) * 16 + digit(text[2 * n + 1]);
-        n += 1;
+    let n = out.len().min(text.len() / 2);
+    for i in 0..n {
+        out[i] = digit(text[2 * i]) * 16 + digit(text[2 * i + 1]);
     }
     n
 }
 
-fn answer_number(a: Answer) -> u64 {
-    match a {
-        Answer::Mismatch => 0,
-        Answer::Incomplete => 1,
-        Answer::Match => 2,
-    }
-}
-
 fn number(letter: u8, a: &[u8], b: &[u8]) -> u64 {
-    if letter == b'p' {
-        return matcher::form::path_number(matcher::form::check_path(a));
+    match letter {
+        b'p' => path_number(check_path(a)),
+        b'q' => pattern_number(check_pattern(a)),
+        b'f' => u64::from(fits(a, b)),
+        _ => match reach(a, b) {
+            Answer::Mismatch => 0,
+            Answer::Incomplete => 1,
+            Answer::Match => 2,
+        },
     }
-    if letter == b'q' {
-        return matcher::form::pattern_number(matcher::form::check_pattern(a));
-    }
-    if letter == b'f' {
-        if matcher::fit::fits(a, b) {
-            return 1;
-        }
-        return 0;
-    }
-    answer_number(matcher::reach::reach(a, b))
-}
-
-// The place after i, or the end.
-fn next(i: usize, end: usize) -> usize
-    requires { i ≤ end }
-    ensures { result ≤ end }
-{
-    if i < end {
-        return i + 1;
-    }
-    end
 }
 
 fn answer(console: &mut Console, line: &[u8]) {
-    if line.len() < 2 {
+    if line.len() < 2 || line[0] == b'#' {
         return;
     }
     let letter = line[0];
-    if letter == b'#' {
-        return;
-    }
+    let (a, b) = split_word(&line[2..]);
     let mut first = [0u8; 512];
     let mut second = [0u8; 512];
-    let gap = find(line, 2, b' ');
-    let n = decode(&line[2..gap], &mut first);
-    let after = next(gap, line.len());
-    let m = decode(&line[after..], &mut second);
-    let text = [letter, b' '];
-    console.print(&text);
+    let n = decode(a, &mut first);
+    let m = decode(b, &mut second);
+    console.print(&[letter, b' ']);
     console.print_decimal(number(letter, &first[..n], &second[..m]));
     console.print(b"\n");
-}
-
-fn run(console: &mut Console, text: &[u8]) {
-    let mut at = 0;
-    while at < text.len() {
-        let end = find(text, at, b'\n');
-        answer(console, &text[at..end]);
-        if end == text.len() {
-            return;
-        }
-        at = end + 1;
-    }
 }
 
 fn main(rt: HostRuntime) -> io::Result<()> {
     let mut console = Console::new(rt.stdin(), rt.stdout());
     let mut text = [0u8; 65536];
     let n = console.read_full(&mut text);
-    run(&mut console, &text[..n]);
+    for line in text[..n].split(|b| *b == b'\n') {
+        answer(&mut console, line);
+    }
     console.finish()
 }

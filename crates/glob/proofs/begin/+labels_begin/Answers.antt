@@ -1,6 +1,7 @@
 -- One law for each test.
 use borrow.Author.Rules.{rules}
-use mathlib.Core.Path.{sym, ◌∙◌}
+use mathlib.Core.Path.{◌≡◌, sym, ◌∙◌}
+use lib.ListN.{length}
 use Prim.Native.Nat.{ℕ}
 use native.Mathlib.Omega.{arith}
 use Rattle.glob.specs.Inner.{Cut}
@@ -11,18 +12,20 @@ use Rattle.glob.proofs.begin.+labels_begin.Goals as goal
 
 -- the pattern's first label, cut off, and that of the bytes known
 labels_begin_cut : (t : ℕ) (c : After-next_slash-a t) → Cut c.args.pattern.now c.next_slash-a.result
-labels_begin_cut t c = cut_law c.args.pattern.now c.next_slash-a.result c.if-pattern-eq0.false c.requires.0 c.next_slash-a.ensures.0 c.next_slash-a.ensures.1
+labels_begin_cut t c = cut_law c.args.pattern.now c.next_slash-a.result (λ z. search rules) c.requires.0 c.next_slash-a.ensures.0 c.next_slash-a.ensures.1
 
 labels_begin_cut2 : (t : ℕ) (c : After-next_slash-b t) → Cut c.args.known.now c.next_slash-b.result
 labels_begin_cut2 t c =
     let b = c.next_slash-b in
     cut_law c.args.known.now b.result (λ z. absurd (omega (arith, c.if-known-lt2.false, z))) c.requires.1 b.ensures.0 b.ensures.1
 
-pub returns-then-pattern-eq0 : goal.returns-then-pattern-eq0
-returns-then-pattern-eq0 t c = labels_end c.args.pattern.now c.args.known.now c.if-pattern-eq0.true c.requires.1
+pub returns-then-is_empty : goal.returns-then-is_empty
+returns-then-is_empty t c =
+    let e : length c.args.pattern.now ≡ 0 = search rules in
+    c.is_empty-then-is_empty.ensures ∙ labels_end c.args.pattern.now c.args.known.now e c.requires.1
 
 pub returns-then-known-lt2 : goal.returns-then-known-lt2
-returns-then-known-lt2 t c = labels_few c.args.pattern.now c.args.known.now c.if-pattern-eq0.false c.requires.0 c.requires.1 c.if-known-lt2.true
+returns-then-known-lt2 t c = labels_few c.args.pattern.now c.args.known.now (λ z. search rules) c.requires.0 c.requires.1 c.if-known-lt2.true
 
 pub returns-then-is_deep : goal.returns-then-is_deep
 returns-then-is_deep t c =
@@ -46,9 +49,9 @@ returns-then-label_fits t c =
     let law = labels_more c.args.pattern.now known c.next_slash-a.result c.next_slash-b.result (labels_begin_cut t (goal.at.returns-then-label_fits t c).After-next_slash-a) cut2 in
     rw (law, sym c.is_deep.ensures ∙ c.if-is_deep.false, other_cut known c.next_slash-b.result cut2 c.if-b-known.false, sym c.label_fits.ensures ∙ c.if-label_fits.true) c.labels_begin.ensures
 
-pub returns : goal.returns
-returns t c =
+pub returns-else-label_fits : goal.returns-else-label_fits
+returns-else-label_fits t c =
     let known = c.args.known.now in
-    let cut2 = labels_begin_cut2 t (goal.at.returns t c).After-next_slash-b in
-    let law = labels_more c.args.pattern.now known c.next_slash-a.result c.next_slash-b.result (labels_begin_cut t (goal.at.returns t c).After-next_slash-a) cut2 in
-    rw (law, sym c.is_deep.ensures ∙ c.if-is_deep.false, other_cut known c.next_slash-b.result cut2 c.if-b-known.false, sym c.label_fits.ensures ∙ c.if-label_fits.false)
+    let cut2 = labels_begin_cut2 t (goal.at.returns-else-label_fits t c).After-next_slash-b in
+    let law = labels_more c.args.pattern.now known c.next_slash-a.result c.next_slash-b.result (labels_begin_cut t (goal.at.returns-else-label_fits t c).After-next_slash-a) cut2 in
+    rw (law, sym c.is_deep.ensures ∙ c.if-is_deep.false, other_cut known c.next_slash-b.result cut2 c.if-b-known.false, sym c.label_fits.ensures ∙ c.if-label_fits.false) c.if-label_fits.false

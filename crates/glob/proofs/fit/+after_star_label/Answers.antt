@@ -4,6 +4,8 @@ use mathlib.Core.List.{List}
 use mathlib.Core.Bool.{Bool, false}
 use Prim.Native.Nat.{ℕ, ◌+◌}
 use native.Mathlib.Omega.{arith}
+use borrow.Author.Rules.{rules}
+use Rattle.glob.specs.Bytes.{star}
 use lib.ListN.{length, get_or}
 use lib.Dec.{eqb}
 use borrow.Author.Tests.{ne_eqb}
@@ -16,8 +18,10 @@ use Rattle.glob.proofs.Trials.{tried_none, tried_step, some_none, now_some, neve
 use Rattle.glob.proofs.fit.+after_star_label.Invariants.{Taken}
 use Rattle.glob.proofs.fit.+after_star_label.Goals as goal
 
-pub after_star-returns-then-p-eq0 : goal.after_star-returns-then-p-eq0
-after_star-returns-then-p-eq0 t c = rw (end_law c.args.p.now c.if-p-eq0.true) (some_none c.args.s.now)
+pub after_star-returns-then-is_empty : goal.after_star-returns-then-is_empty
+after_star-returns-then-is_empty t c =
+    let e : length c.args.p.now ≡ 0 = search rules in
+    rw (end_law c.args.p.now e) (some_none c.args.s.now)
 
 pub after_star-loop-i-init : goal.after_star-loop-i-init
 after_star-loop-i-init t c =
@@ -29,48 +33,70 @@ pub after_star-returns-in-Fits : goal.after_star-returns-in-Fits
 after_star-returns-in-Fits t c =
     let k = fits_label c.args.p.now in
     let l = back c.args.s.now c.loop-i.i in
-    c.loop-i.invariant.1.0 (omega (arith, c.loop-i-test.true)) Fits (now_some k l (subst (Says k l) c.in-Fits.is c.label-r.ensures))
+    c.loop-i.invariant.1.0 (omega (arith, c.loop-i-test.true)) Fits (now_some k l (subst (Says k l) c.in-Fits.is c.label.ensures))
 
 pub after_star-returns-in-Never : goal.after_star-returns-in-Never
 after_star-returns-in-Never t c =
     let k = fits_label c.args.p.now in
     let l = back c.args.s.now c.loop-i.i in
-    c.loop-i.invariant.1.0 (omega (arith, c.loop-i-test.true)) Never (never_twice k l (subst (Says k l) c.in-Never.is c.label-r.ensures))
+    c.loop-i.invariant.1.0 (omega (arith, c.loop-i-test.true)) Never (never_twice k l (subst (Says k l) c.in-Never.is c.label.ensures))
 
 pub after_star-loop-i-preserved : goal.after_star-loop-i-preserved
 after_star-loop-i-preserved t c =
     let p = c.args.p.now in
     let s = c.args.s.now in
     let i = c.loop-i.i in
-    let no = subst (Says (fits_label p) (back s i)) c.in-Fails.is c.label-r.ensures in
+    let no = subst (Says (fits_label p) (back s i)) c.in-Fails.is c.label.ensures in
     let next = c.next_try-i-in-Fails in
     (next.ensures.high, through (OffLabel p s) (length s) (i + 1) (Taken p s) (tried_step p s s) next.result next.ensures (tried_step p s s i (omega (arith, c.loop-i-test.true)) no c.loop-i.invariant.1))
 
 pub after_star-returns : goal.after_star-returns
 after_star-returns t c = never_twice (fits_label c.args.p.now) c.args.s.now (c.loop-i.invariant.1.1 (omega (arith, c.loop-i-test.false)))
 
-pub label-returns-then-s-eq0 : goal.label-returns-then-s-eq0
-label-returns-then-s-eq0 t c = rw (end_law c.args.p.now c.if-p-eq0.true, no_items c.args.s.now c.if-s-eq0.true)
+pub label-returns-in-None-None : goal.label-returns-in-None-None
+label-returns-in-None-None t c =
+    let e : length c.args.p.now ≡ 0 = search rules in
+    let f : length c.args.s.now ≡ 0 = search rules in
+    rw (end_law c.args.p.now e, no_items c.args.s.now f)
 
-pub label-returns-then-p-eq0 : goal.label-returns-then-p-eq0
-label-returns-then-p-eq0 t c = rw (end_law c.args.p.now c.if-p-eq0.true, an_item 0 c.args.s.now c.if-s-eq0.false)
+pub label-returns-in-None-Some : goal.label-returns-in-None-Some
+label-returns-in-None-Some t c =
+    let e : length c.args.p.now ≡ 0 = search rules in
+    let f : length c.args.s.now ≡ 0 → ⊥ = λ z. search rules in
+    rw (end_law c.args.p.now e, an_item 0 c.args.s.now f)
 
-pub label-returns-then-p-eq-STAR : goal.label-returns-then-p-eq-STAR
-label-returns-then-p-eq-STAR t c = subst (λ (g : List ℕ → Bool). Says g c.args.s.now c.after_star.result) (sym (star_law c.args.p.now c.if-p-eq0.false c.if-p-eq-STAR.true)) c.after_star.ensures
+pub label-returns-in-Some-eq42-default : goal.label-returns-in-Some-eq42-default
+label-returns-in-Some-eq42-default t c =
+    let p = c.args.p.now in
+    let f : length p ≡ 0 → ⊥ = λ z. search rules in
+    let e : get_or p 0 0 ≡ star = search rules in
+    subst (λ (g : List ℕ → Bool). Says g c.args.s.now c.after_star.result) (sym (star_law p f e)) c.after_star.ensures
 
-pub label-returns-then-s-eq0-2 : goal.label-returns-then-s-eq0-2
-label-returns-then-s-eq0-2 t c = rw (byte_law c.args.p.now c.if-p-eq0.false c.if-p-eq-STAR.false, no_items c.args.s.now c.if-s-eq0-2.true)
+pub label-returns-in-Some-None : goal.label-returns-in-Some-None
+label-returns-in-Some-None t c =
+    let p = c.args.p.now in
+    let f : length p ≡ 0 → ⊥ = λ z. search rules in
+    let w : get_or p 0 0 ≡ star → ⊥ = λ z. search rules in
+    let g : length c.args.s.now ≡ 0 = search rules in
+    rw (byte_law p f w, no_items c.args.s.now g)
 
-pub label-returns-then-p-s : goal.label-returns-then-p-s
-label-returns-then-p-s t c =
-    let a = c.args in
-    let n = c.alike-n in
-    alike_first a.p.now a.s.now n.result c.label.result c.if-p-eq0.false c.if-p-eq-STAR.false c.if-s-eq0-2.false c.if-p-s.true n.ensures c.label.ensures
-
-pub label-returns : goal.label-returns
-label-returns t c =
+pub label-returns-in-Some-Some : goal.label-returns-in-Some-Some
+label-returns-in-Some-Some t c =
+    let p = c.args.p.now in
     let s = c.args.s.now in
-    let k = fits_label (rest c.args.p.now) in
-    let f = eqb (get_or c.args.p.now 0 0) in
-    rw (byte_law c.args.p.now c.if-p-eq0.false c.if-p-eq-STAR.false)
-    (subst (λ (l : List ℕ). first f k l ≡ false) (sym (split s c.if-s-eq0-2.false)) (first_off k f (get_or s 0 0) (rest s) (ne_eqb _ _ c.if-p-s.false)))
+    let f : length p ≡ 0 → ⊥ = λ z. search rules in
+    let w : get_or p 0 0 ≡ star → ⊥ = λ z. search rules in
+    let g : length s ≡ 0 → ⊥ = λ z. search rules in
+    let e : get_or p 0 0 ≡ get_or s 0 0 = search rules in
+    alike_first p s c.alike-n.result c.label.result f w g e c.alike-n.ensures c.label.ensures
+
+pub label-returns-in-Some-Some-2 : goal.label-returns-in-Some-Some-2
+label-returns-in-Some-Some-2 t c =
+    let p = c.args.p.now in
+    let s = c.args.s.now in
+    let f : length p ≡ 0 → ⊥ = λ z. search rules in
+    let w : get_or p 0 0 ≡ star → ⊥ = λ z. search rules in
+    let g : length s ≡ 0 → ⊥ = λ z. search rules in
+    let e : get_or p 0 0 ≡ get_or s 0 0 → ⊥ = λ z. search rules in
+    rw (byte_law p f w)
+    (subst (λ (l : List ℕ). first (eqb (get_or p 0 0)) (fits_label (rest p)) l ≡ false) (sym (split s g)) (first_off (fits_label (rest p)) (eqb (get_or p 0 0)) (get_or s 0 0) (rest s) (ne_eqb _ _ e)))

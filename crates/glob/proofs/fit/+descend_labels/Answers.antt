@@ -1,6 +1,6 @@
 -- By the laws of the first labels, cut off; the loop of `descend` passes on `Tried`.
 use borrow.Author.Rules.{rules}
-use mathlib.Core.Path.{sym, ap, subst, ◌∙◌}
+use mathlib.Core.Path.{◌≡◌, sym, ap, subst, ◌∙◌}
 use mathlib.Core.List.{List}
 use mathlib.Core.Bool.{Bool}
 use Prim.Native.Nat.{ℕ, ◌+◌}
@@ -21,10 +21,10 @@ use Rattle.glob.proofs.fit.+descend_labels.Goals as goal
 
 -- the first labels, cut off
 labels_cut : (t : ℕ) (c : labels-After-next_slash-a t) → Cut c.args.pattern.now c.next_slash-a.result
-labels_cut t c = cut_law c.args.pattern.now c.next_slash-a.result c.if-pattern-eq0.false c.requires.0 c.next_slash-a.ensures.0 c.next_slash-a.ensures.1
+labels_cut t c = cut_law c.args.pattern.now c.next_slash-a.result (λ z. search rules) c.requires.0 c.next_slash-a.ensures.0 c.next_slash-a.ensures.1
 
 labels_cut2 : (t : ℕ) (c : labels-After-next_slash-b t) → Cut c.args.path.now c.next_slash-b.result
-labels_cut2 t c = cut_law c.args.path.now c.next_slash-b.result c.if-path-eq0-2.false c.requires.1 c.next_slash-b.ensures.0 c.next_slash-b.ensures.1
+labels_cut2 t c = cut_law c.args.path.now c.next_slash-b.result (λ z. search rules) c.requires.1 c.next_slash-b.ensures.0 c.next_slash-b.ensures.1
 
 -- whole labels are alike: what is said of the others is so of all
 labels_shared : (t : ℕ) (c : labels-Else-n-pattern t) → SharedLabels c.args.pattern.now c.args.path.now c.equal_labels-n.result
@@ -36,12 +36,14 @@ labels_says t c =
     let p = c.args.pattern.now in
     let s = c.args.path.now in
     let k = fit_labels (labels_of (back p c.next_slash-a.result)) in
-    let law = one_law p c.next_slash-a.result (cut_law c.args.pattern.now c.next_slash-a.result c.if-pattern-eq0.false c.requires.0 c.next_slash-a.ensures.0 c.next_slash-a.ensures.1) (sym c.is_deep.ensures ∙ c.if-is_deep.false) in
+    let law = one_law p c.next_slash-a.result (cut_law c.args.pattern.now c.next_slash-a.result (λ z. search rules) c.requires.0 c.next_slash-a.ensures.0 c.next_slash-a.ensures.1) (sym c.is_deep.ensures ∙ c.if-is_deep.false) in
     subst (λ (g : List (List ℕ) → Bool). Says g (labels_of s) c.labels-2.result) (sym law)
-    (first_cut (fits_label (front p c.next_slash-a.result)) k s c.next_slash-b.result c.labels-2.result (cut_law c.args.path.now c.next_slash-b.result c.if-path-eq0-2.false c.requires.1 c.next_slash-b.ensures.0 c.next_slash-b.ensures.1) (sym c.label_fits.ensures ∙ c.if-not-label_fits.false) c.labels-2.ensures)
+    (first_cut (fits_label (front p c.next_slash-a.result)) k s c.next_slash-b.result c.labels-2.result (cut_law c.args.path.now c.next_slash-b.result (λ z. search rules) c.requires.1 c.next_slash-b.ensures.0 c.next_slash-b.ensures.1) (sym c.label_fits.ensures ∙ c.if-not-label_fits.false) c.labels-2.ensures)
 
-pub descend-returns-then-pattern-eq0 : goal.descend-returns-then-pattern-eq0
-descend-returns-then-pattern-eq0 t c = rw (labels_end_law c.args.pattern.now c.if-pattern-eq0.true) (some_none (labels_of c.args.path.now))
+pub descend-returns-then-is_empty : goal.descend-returns-then-is_empty
+descend-returns-then-is_empty t c =
+    let e : length c.args.pattern.now ≡ 0 = search rules in
+    rw (labels_end_law c.args.pattern.now e) (some_none (labels_of c.args.path.now))
 
 pub descend-slice_bounds-try_last-count : goal.descend-slice_bounds-try_last-count
 descend-slice_bounds-try_last-count t c = (c.is_single.ensures c.if-is_single.true).some
@@ -65,13 +67,13 @@ pub descend-returns-in-Fits : goal.descend-returns-in-Fits
 descend-returns-in-Fits t c =
     let k = fit_labels (labels_of c.args.pattern.now) in
     let l = labels_of (back c.args.path.now c.loop-b.b) in
-    c.loop-b.invariant.2.0 (omega (arith, c.loop-b-test.true)) Fits (now_some k l (subst (Says k l) c.in-Fits.is c.labels-r.ensures))
+    c.loop-b.invariant.2.0 (omega (arith, c.loop-b-test.true)) Fits (now_some k l (subst (Says k l) c.in-Fits.is c.labels.ensures))
 
 pub descend-returns-in-Never : goal.descend-returns-in-Never
 descend-returns-in-Never t c =
     let k = fit_labels (labels_of c.args.pattern.now) in
     let l = labels_of (back c.args.path.now c.loop-b.b) in
-    c.loop-b.invariant.2.0 (omega (arith, c.loop-b-test.true)) Never (never_twice k l (subst (Says k l) c.in-Never.is c.labels-r.ensures))
+    c.loop-b.invariant.2.0 (omega (arith, c.loop-b-test.true)) Never (never_twice k l (subst (Says k l) c.in-Never.is c.labels.ensures))
 
 pub descend-loop-b-preserved : goal.descend-loop-b-preserved
 descend-loop-b-preserved t c =
@@ -80,19 +82,25 @@ descend-loop-b-preserved t c =
     let b = c.loop-b.b in
     let inv = c.loop-b.invariant in
     let next = c.next_begin-b-in-Fails in
-    let no = subst (Says (fit_labels ps) (labels_of (back s b))) c.in-Fails.is c.labels-r.ensures in
+    let no = subst (Says (fit_labels ps) (labels_of (back s b))) c.in-Fails.is c.labels.ensures in
     (next.ensures.0.high, next.ensures.1, through (OffLabels ps s) (length s) (b + 1) (Taken ps s) (tried_place ps s (labels_of s)) next.result next.ensures.0 (tried_place ps s (labels_of s) b (omega (arith, c.loop-b-test.true)) (λ g. no) inv.2))
 
 pub descend-returns : goal.descend-returns
 descend-returns t c = never_twice (fit_labels (labels_of c.args.pattern.now)) (labels_of c.args.path.now) (c.loop-b.invariant.2.1 (omega (arith, c.loop-b-test.false)))
 
-pub labels-returns-then-path-eq0 : goal.labels-returns-then-path-eq0
+pub labels-returns-then-is_empty-2 : goal.labels-returns-then-is_empty-2
 unfolding fit
-labels-returns-then-path-eq0 t c = rw (no_labels c.args.pattern.now c.if-pattern-eq0.true, no_labels c.args.path.now c.if-path-eq0.true)
+labels-returns-then-is_empty-2 t c =
+    let e : length c.args.pattern.now ≡ 0 = search rules in
+    let f : length c.args.path.now ≡ 0 = search rules in
+    rw (no_labels c.args.pattern.now e, no_labels c.args.path.now f)
 
-pub labels-returns-then-pattern-eq0 : goal.labels-returns-then-pattern-eq0
+pub labels-returns-then-is_empty : goal.labels-returns-then-is_empty
 unfolding fit
-labels-returns-then-pattern-eq0 t c = rw (no_labels c.args.pattern.now c.if-pattern-eq0.true) (some_labels c.args.path.now c.if-path-eq0.false c.requires.1)
+labels-returns-then-is_empty t c =
+    let e : length c.args.pattern.now ≡ 0 = search rules in
+    let f : length c.args.path.now ≡ 0 → ⊥ = λ z. search rules in
+    rw (no_labels c.args.pattern.now e) (some_labels c.args.path.now f c.requires.1)
 
 pub labels-returns-then-begin_unlike : goal.labels-returns-then-begin_unlike
 labels-returns-then-begin_unlike t c = c.begin_unlike.ensures c.if-begin_unlike.true
@@ -123,8 +131,10 @@ labels-returns-then-is_deep t c =
     let law = deep_law c.args.pattern.now c.next_slash-a.result (labels_cut t (goal.at.labels-returns-then-is_deep t c).After-next_slash-a) (sym c.is_deep.ensures ∙ c.if-is_deep.true) in
     subst (λ (g : List (List ℕ) → Bool). Says g (labels_of c.args.path.now) c.descend.result) (sym law) c.descend.ensures
 
-pub labels-returns-then-path-eq0-2 : goal.labels-returns-then-path-eq0-2
-labels-returns-then-path-eq0-2 t c = rw (one_law c.args.pattern.now c.next_slash-a.result (labels_cut t (goal.at.labels-returns-then-path-eq0-2 t c).After-next_slash-a) (sym c.is_deep.ensures ∙ c.if-is_deep.false), no_labels c.args.path.now c.if-path-eq0-2.true)
+pub labels-returns-then-is_empty-3 : goal.labels-returns-then-is_empty-3
+labels-returns-then-is_empty-3 t c =
+    let e : length c.args.path.now ≡ 0 = search rules in
+    rw (one_law c.args.pattern.now c.next_slash-a.result (labels_cut t (goal.at.labels-returns-then-is_empty-3 t c).After-next_slash-a) (sym c.is_deep.ensures ∙ c.if-is_deep.false), no_labels c.args.path.now e)
 
 pub labels-returns-then-not-label_fits : goal.labels-returns-then-not-label_fits
 labels-returns-then-not-label_fits t c =
@@ -145,11 +155,5 @@ labels-labels-requires-2 t c =
     let less = cut_falls c.args.pattern.now c.args.path.now c.next_slash-a.result c.next_slash-b.result (labels_cut t (goal.at.labels-labels-requires-2 t c).After-next_slash-a) (labels_cut2 t (goal.at.labels-labels-requires-2 t c).After-next_slash-b) in
     (omega (arith, less), ((labels_cut t (goal.at.labels-labels-requires-2 t c).After-next_slash-a).begun, (labels_cut2 t (goal.at.labels-labels-requires-2 t c).After-next_slash-b).begun))
 
-pub labels-returns-in-Fits : goal.labels-returns-in-Fits
-labels-returns-in-Fits t c = subst (Says (fit_labels (labels_of c.args.pattern.now)) (labels_of c.args.path.now)) c.in-Fits.is (labels_says t (goal.at.labels-returns-in-Fits t c).After-labels-2)
-
-pub labels-returns-in-Fails : goal.labels-returns-in-Fails
-labels-returns-in-Fails t c = subst (Says (fit_labels (labels_of c.args.pattern.now)) (labels_of c.args.path.now)) c.in-Fails.is (labels_says t (goal.at.labels-returns-in-Fails t c).After-labels-2)
-
-pub labels-returns-in-Never : goal.labels-returns-in-Never
-labels-returns-in-Never t c = subst (Says (fit_labels (labels_of c.args.pattern.now)) (labels_of c.args.path.now)) c.in-Never.is (labels_says t (goal.at.labels-returns-in-Never t c).After-labels-2)
+pub labels-returns : goal.labels-returns
+labels-returns t c = labels_says t (goal.at.labels-returns t c).After-labels-2

@@ -15,13 +15,13 @@ pub loop-i-init : goal.loop-i-init
 loop-i-init c =
     let p = c.args.pattern.now in
     let s = c.args.path.now in
-    (omega (arith, c.requires.0), shared_none p s c.requires.1 c.requires.2, λ m. (omega arith, run_first p s (omega (arith, c.requires.0)) (omega arith) c.requires.1 c.requires.2))
+    (shared_none p s c.requires.1 c.requires.2, λ m. (omega arith, run_first p s (omega (arith, c.requires.0)) (omega arith) c.requires.1 c.requires.2))
 
 pub returns-then-path-i : goal.returns-then-path-i
-returns-then-path-i c = alike_shared _ _ _ c.loop-i.invariant.1
+returns-then-path-i c = alike_shared _ _ _ c.loop-i.invariant.0
 
 pub returns-then-pattern-i-eq-STAR : goal.returns-then-pattern-i-eq-STAR
-returns-then-pattern-i-eq-STAR c = alike_shared _ _ _ c.loop-i.invariant.1
+returns-then-pattern-i-eq-STAR c = alike_shared _ _ _ c.loop-i.invariant.0
 
 pub returns-then-pattern-i : goal.returns-then-pattern-i
 returns-then-pattern-i c =
@@ -29,7 +29,7 @@ returns-then-pattern-i c =
     let s = c.args.path.now in
     let m : c.loop-i.i < length s = omega (arith, c.if-path-i.false) in
     alike_off p s (length p + 1) (omega arith)
-    (shared_unlike p s c.loop-i.n c.loop-i.i (c.loop-i.invariant.2 (λ z. omega (arith, m))).1 c.loop-i-test.true (omega (arith, m)) c.if-pattern-i-eq-STAR.false (λ z. omega (arith, z, c.if-pattern-i.true)) c.loop-i.invariant.1)
+    (shared_unlike p s c.loop-i.n c.loop-i.i (c.loop-i.invariant.1 (λ z. omega (arith, m))).1 c.loop-i-test.true (omega (arith, m)) c.if-pattern-i-eq-STAR.false (λ z. omega (arith, z, c.if-pattern-i.true)) c.loop-i.invariant.0)
 
 pub loop-i-preserved : goal.loop-i-preserved
 loop-i-preserved c =
@@ -39,13 +39,13 @@ loop-i-preserved c =
     let l = c.loop-i-test.true in
     let m : i < length s = omega (arith, c.if-path-i.false) in
     let e = c.if-pattern-i.false in
-    let run = (c.loop-i.invariant.2 (λ z. omega (arith, m))).1 in
-    let Again : ℕ → Type 0 = λ k. (i + 1 ≤ length p) × SharedLabels p s k × ((length s ≡ 0 → ⊥) → (i + 1 ≤ length s) × Run p s k (i + 1)) in
+    let run = (c.loop-i.invariant.1 (λ z. omega (arith, m))).1 in
+    let Again : ℕ → Type 0 = λ k. SharedLabels p s k × ((length s ≡ 0 → ⊥) → (i + 1 ≤ length s) × Run p s k (i + 1)) in
     elim c.if-pattern-i-eq-SLASH.branch [
       | then-pattern-i-eq-SLASH w ↦ let z = w.if-pattern-i-eq-SLASH.true in subst Again (sym w.n-is)
-          (omega (arith, l), shared_on p s c.loop-i.n i run c.loop-i.invariant.0 (omega (arith, m)) (begun_at p i l z) (begun_at s i m (sym e ∙ z)) c.loop-i.invariant.1, λ g. (omega (arith, m), run_next p s i l m e z))
+          (shared_on p s c.loop-i.n i run (omega arith) (omega (arith, m)) (begun_at p i l z) (begun_at s i m (sym e ∙ z)) c.loop-i.invariant.0, λ g. (omega (arith, m), run_next p s i l m e z))
       | else-pattern-i-eq-SLASH w ↦ subst Again (sym w.n-is)
-          (omega (arith, l), c.loop-i.invariant.1, λ g. (omega (arith, m), run_on p s i l m e c.loop-i.n c.if-pattern-i-eq-STAR.false w.if-pattern-i-eq-SLASH.false run))
+          (c.loop-i.invariant.0, λ g. (omega (arith, m), run_on p s i l m e c.loop-i.n c.if-pattern-i-eq-STAR.false w.if-pattern-i-eq-SLASH.false run))
     ]
 
 -- the pattern has ended
@@ -55,12 +55,12 @@ returns c =
     let s = c.args.path.now in
     let n = c.loop-i.n in
     let i = c.loop-i.i in
-    let a = c.loop-i.invariant.1 in
+    let a = c.loop-i.invariant.0 in
     let end = c.loop-i-test.false in
     ⊎_elim
     (λ (z : length s ≡ 0). alike_shared p s (length s) (subst (SharedLabels p s) (omega (arith, a.in_path, z)) a))
-    (λ (z : length s ≡ 0 → ⊥). let run = c.loop-i.invariant.2 z in (
-      λ m. subst (SharedLabels p s) (omega (arith, run.0, m, end)) (shared_on p s n i run.1 c.loop-i.invariant.0 run.0 (begun_end p i (omega (arith, end))) (begun_end s i (omega (arith, m, end))) a),
-      λ m. shared_longer p s n i run.1 (omega (arith, end)) (omega (arith, m, c.loop-i.invariant.0)) a,
+    (λ (z : length s ≡ 0 → ⊥). let run = c.loop-i.invariant.1 z in (
+      λ m. subst (SharedLabels p s) (omega (arith, run.0, m, end)) (shared_on p s n i run.1 (omega arith) run.0 (begun_end p i (omega (arith, end))) (begun_end s i (omega (arith, m, end))) a),
+      λ m. shared_longer p s n i run.1 (omega (arith, end)) (omega (arith, m)) a,
     ))
     (same? (length s) 0)

@@ -1,7 +1,7 @@
 -- `glob::fit::next_begin` meets its contract. The invariant: its first part, of the places passed over so far.
 use mathlib.Core.Path.{◌≡◌, sym, ◌∙◌}
 use mathlib.Core.List.{List}
-use Prim.Native.Nat.{ℕ, ◌+◌, ◌-◌, ◌≤◌}
+use Prim.Native.Nat.{ℕ, ◌+◌, ◌-◌, ◌<◌, ◌≤◌}
 use native.Mathlib.Omega.{arith}
 use lib.ListN.{length, drop, get_or}
 use lib.Dec.{eqb}
@@ -22,12 +22,6 @@ up_to ps s from r h l = (skip_to (OffLabels ps s) (length s) from from r (omega 
 pub returns-then-pattern-lt2 : goal.returns-then-pattern-lt2
 returns-then-pattern-lt2 c = up_to (labels_of c.args.pattern.now) c.args.path.now c.args.from c.next_slash.result c.next_slash.ensures c.requires.1
 
-pub returns-then-c-eq-STAR : goal.returns-then-c-eq-STAR
-returns-then-c-eq-STAR c = up_to (labels_of c.args.pattern.now) c.args.path.now c.args.from c.next_slash-then-c-eq-STAR.result c.next_slash-then-c-eq-STAR.ensures c.requires.1
-
-pub returns-then-c-eq-SLASH : goal.returns-then-c-eq-SLASH
-returns-then-c-eq-SLASH c = up_to (labels_of c.args.pattern.now) c.args.path.now c.args.from c.next_slash-then-c-eq-SLASH.result c.next_slash-then-c-eq-SLASH.ensures c.requires.1
-
 pub loop-i-init : goal.loop-i-init
 loop-i-init c = skip_none _ _ _ c.requires.1
 
@@ -43,9 +37,9 @@ loop-i-preserved c =
     let p = c.args.pattern.now in
     let s = c.args.path.now in
     let i = c.loop-i.i in
-    let l = c.loop-i-test.true in
+    let l : i + 1 < length s = omega arith in
     skip_on (OffLabels (labels_of p) s) (length s) c.args.from i (omega (arith, l))
-    (off_unlike p s (omega (arith, c.if-pattern-lt2.false)) c.requires.0 c.if-c-eq-STAR.false i l (sym c.begins_with.ensures ∙ c.if-begins_with.false))
+    (off_unlike p s (omega (arith, c.if-pattern-lt2.false)) c.requires.0 c.if-pattern-eq-STAR.false i l (sym c.begins_with.ensures ∙ c.if-begins_with.false))
     c.loop-i.invariant
 
 pub returns : goal.returns
@@ -53,7 +47,7 @@ returns c =
     let p = c.args.pattern.now in
     let s = c.args.path.now in (
       skip_to (OffLabels (labels_of p) s) (length s) c.args.from c.loop-i.i (length s + 1) c.loop-i.invariant.high (omega arith)
-          (λ j g m. off_last p s (omega (arith, c.if-pattern-lt2.false)) c.requires.0 c.if-c-eq-STAR.false c.if-c-eq-SLASH.false j (omega (arith, c.loop-i-test.false)))
+          (λ j g m. off_last p s (omega (arith, c.if-pattern-lt2.false)) c.requires.0 c.if-pattern-eq-STAR.false c.if-pattern-eq-SLASH.false j (omega (arith, c.loop-i-test.false)))
           c.loop-i.invariant,
       begun_end s (length s + 1) (omega arith),
     )

@@ -1,13 +1,11 @@
--- `glob::split::next_slash` meets its contract. The invariant: what is passed has no `/`, so what stands up to the first `/` from here, and the bytes passed, are what stands up to it from the start.
-use native.Mathlib.Omega.{arith}
-use Rattle.glob.proofs.Cuts.{up_stop, up_more, up_end}
+-- `glob::split::next_slash` meets its contract: what is left from the place on is looked through.
+use Rattle.std.proofs.Common.{arith}
+use Rattle.glob.proofs.Parts.{length_back}
+use Rattle.glob.proofs.Places.{up_from}
 use Rattle.glob.proofs.split.next_slash.Goals as goal
 
-pub returns-then-s-i-eq-SLASH : goal.returns-then-s-i-eq-SLASH
-returns-then-s-i-eq-SLASH c = omega (arith, up_stop c.args.s.now c.loop-i.i c.loop-i-test.true c.if-s-i-eq-SLASH.true)
-
-pub loop-i-preserved : goal.loop-i-preserved
-loop-i-preserved c = omega (arith, up_more c.args.s.now c.loop-i.i c.loop-i-test.true c.if-s-i-eq-SLASH.false)
-
 pub returns : goal.returns
-returns c = omega (arith, up_end c.args.s.now c.loop-i.i c.loop-i-test.false)
+returns c =
+    let n = up_from c.args.s.now c.args.from c.bytes_before.result c.bytes_before.ensures.value in
+    let l = length_back c.args.s.now c.args.from in
+    (omega arith, omega arith)

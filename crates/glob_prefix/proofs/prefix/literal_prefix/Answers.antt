@@ -1,14 +1,15 @@
 -- `glob_prefix::prefix::literal_prefix` meets its contract: label by label, `Led`.
 use mathlib.Core.Path.{sym, ◌∙◌}
 use native.Mathlib.Omega.{arith}
+use borrow.Author.Rules.{rules}
 use Rattle.glob_prefix.proofs.Leading.{led_none, led_prefix, no_prefix, stop_inside, led_on}
 use Rattle.glob_prefix.proofs.prefix.literal_prefix.Goals as goal
 
-pub returns-then-byte_at-ne-SLASH : goal.returns-then-byte_at-ne-SLASH
-returns-then-byte_at-ne-SLASH c = no_prefix c.args.pattern.now
+pub returns-then-ne : goal.returns-then-ne
+returns-then-ne c = no_prefix c.args.pattern.now
 
 pub loop-a-init : goal.loop-a-init
-loop-a-init c = led_none c.args.pattern.now (λ f. sym c.byte_at.ensures ∙ c.if-byte_at-ne-SLASH.false)
+loop-a-init c = led_none c.args.pattern.now (λ f. search rules)
 
 -- where the loop stops before a label: the bytes so far
 pub returns-then-a-ge-ENOUGH : goal.returns-then-a-ge-ENOUGH

@@ -1,9 +1,11 @@
--- `matcher::bytes::label_byte` meets its contract: its table follows the rule.
+-- `matcher::bytes::label_byte` meets its contract: the table follows the rule.
 use mathlib.Core.Path.{refl}
+use borrow.Author.Rules.{rules}
 use Rattle.matcher.specs.Bytes.{label_byte}
+use Rattle.matcher.specs.declared.marks.TheConstants.{LABEL_BYTES}
 use Rattle.matcher.proofs.Table.{marks_follow}
 use Rattle.matcher.proofs.bytes.label_byte.Goals as goal
 
-pub marked-requires : goal.marked-requires
+pub returns : goal.returns
 unfolding label_byte
-marked-requires c = marks_follow _ refl tt
+returns c = (marks_follow LABEL_BYTES refl tt).are c.args.b (search rules)

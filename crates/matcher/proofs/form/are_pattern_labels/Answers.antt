@@ -12,7 +12,7 @@ use Rattle.matcher.specs.Form.{pattern_label}
 use Rattle.matcher.proofs.form.are_pattern_labels.Goals as goal
 
 pub loop-a-init : goal.loop-a-init
-loop-a-init c = (search rules, c.requires.1, refl)
+loop-a-init c = (search rules, c.requires, refl)
 
 pub returns-then-not-is_pattern_label : goal.returns-then-not-is_pattern_label
 returns-then-not-is_pattern_label c =

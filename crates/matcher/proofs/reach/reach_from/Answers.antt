@@ -12,14 +12,14 @@ pub returns-then-differs : goal.returns-then-differs
 returns-then-differs c =
     λ P h f.
     let a = c.args in
-    sym (ruled_out a.pattern.now [] a.known.now a.literal h (omega arith) (sym c.differs.ensures ∙ c.if-differs.true))
+    let all : a.literal - 0 ≡ a.literal = omega arith in
+    sym (ruled_out a.pattern.now [] a.known.now a.literal h (omega arith) (rw all (sym c.differs.ensures ∙ c.if-differs.true)))
 
 pub returns-then-literal-pattern : goal.returns-then-literal-pattern
 returns-then-literal-pattern c =
     λ P h f.
     let a = c.args in
-    let all : a.literal - 0 ≡ a.literal = omega arith in
-    compared a.pattern.now a.literal P h a.known.now (omega arith) (rw all at (sym c.differs.ensures ∙ c.if-differs.false))
+    compared a.pattern.now a.literal P h a.known.now (omega arith) (sym c.differs.ensures ∙ c.if-differs.false)
 
 pub returns : goal.returns
 returns c = λ P h f. c.reach_labels.ensures ∙ reach_labels_lem c.args.pattern.now c.args.known.now P (first_tested _ f)

@@ -6,9 +6,6 @@ use Rattle.matcher.proofs.reach.ruled_out.Goals as goal
 pub returns-then-literal-p : goal.returns-then-literal-p
 returns-then-literal-p c = let a = c.args in not_ruled a.pattern.now a.literal a.p a.s.now
 
-pub returns-then-pattern-literal : goal.returns-then-pattern-literal
-returns-then-pattern-literal c = let a = c.args in not_ruled a.pattern.now a.literal a.p a.s.now
-
 pub returns : goal.returns
 returns c =
     let a = c.args in

@@ -32,24 +32,24 @@ three s i l e f g = more s i 2 (omega arith) g (two s i l e f)
 pub returns-then-s-i : goal.returns-then-s-i
 returns-then-s-i c = (skip_none _ _ _ (omega arith), omega arith)
 
-pub returns-then-not-marked : goal.returns-then-not-marked
-returns-then-not-marked c = (skip_none _ _ _ (omega arith), omega arith)
+pub returns-then-not-label_byte : goal.returns-then-not-label_byte
+returns-then-not-label_byte c = (skip_none _ _ _ (omega arith), omega arith)
 
-pub returns-then-not-marked-2 : goal.returns-then-not-marked-2
-returns-then-not-marked-2 c = let a = c.args in (one a.s.now a.i c.if-s-i.false (sym c.marked.ensures ∙ c.if-not-marked.false), omega arith)
+pub returns-then-not-label_byte-2 : goal.returns-then-not-label_byte-2
+returns-then-not-label_byte-2 c = let a = c.args in (one a.s.now a.i c.if-s-i.false (sym c.label_byte.ensures ∙ c.if-not-label_byte.false), omega arith)
 
-pub returns-then-not-marked-3 : goal.returns-then-not-marked-3
-returns-then-not-marked-3 c =
+pub returns-then-not-label_byte-3 : goal.returns-then-not-label_byte-3
+returns-then-not-label_byte-3 c =
     let a = c.args in
-    (two a.s.now a.i c.if-s-i.false (sym c.marked.ensures ∙ c.if-not-marked.false) (sym c.marked-2.ensures ∙ c.if-not-marked-2.false), omega arith)
+    (two a.s.now a.i c.if-s-i.false (sym c.label_byte.ensures ∙ c.if-not-label_byte.false) (sym c.label_byte-2.ensures ∙ c.if-not-label_byte-2.false), omega arith)
 
-pub returns-then-not-marked-4 : goal.returns-then-not-marked-4
-returns-then-not-marked-4 c =
+pub returns-then-not-label_byte-4 : goal.returns-then-not-label_byte-4
+returns-then-not-label_byte-4 c =
     let a = c.args in
-    (three a.s.now a.i c.if-s-i.false (sym c.marked.ensures ∙ c.if-not-marked.false) (sym c.marked-2.ensures ∙ c.if-not-marked-2.false) (sym c.marked-3.ensures ∙ c.if-not-marked-3.false), omega arith)
+    (three a.s.now a.i c.if-s-i.false (sym c.label_byte.ensures ∙ c.if-not-label_byte.false) (sym c.label_byte-2.ensures ∙ c.if-not-label_byte-2.false) (sym c.label_byte-3.ensures ∙ c.if-not-label_byte-3.false), omega arith)
 
 pub returns : goal.returns
 returns c =
     let a = c.args in
-    let first = three a.s.now a.i c.if-s-i.false (sym c.marked.ensures ∙ c.if-not-marked.false) (sym c.marked-2.ensures ∙ c.if-not-marked-2.false) (sym c.marked-3.ensures ∙ c.if-not-marked-3.false) in
-    (more a.s.now a.i 3 (omega arith) (sym c.marked-4.ensures ∙ c.if-not-marked-4.false) first, omega arith)
+    let first = three a.s.now a.i c.if-s-i.false (sym c.label_byte.ensures ∙ c.if-not-label_byte.false) (sym c.label_byte-2.ensures ∙ c.if-not-label_byte-2.false) (sym c.label_byte-3.ensures ∙ c.if-not-label_byte-3.false) in
+    (more a.s.now a.i 3 (omega arith) (sym c.label_byte-4.ensures ∙ c.if-not-label_byte-4.false) first, omega arith)
