@@ -7,8 +7,11 @@ use native.Mathlib.Omega.{arith}
 use native.Mathlib.Nat.{div-add-mod', mul_assoc, add-mul, zero-mul, pow-suc, mul-le-mul_right, one-le-pow, zero-lt-suc, mod-lt, div-lt_iff_lt-mul, pow-succ', div-div-eq-div-mul, div-one, mul_comm}
 use lib.ListN.{length, get_or, length-append}
 use lib.Pow.{pow-add}
+use lib.Seq.{take_all}
 use lib.Arith.{digits_div, digits_mod, mod-mul}
 use borrow.Author.Tests.{ltb-true, lt-ltb}
+use Rattle.std.specs.Int.{w32, w64, from_be_bytes, to_be_bytes}
+use Rattle.std.proofs.lemmas.Nat.{be_bytes_4, be_bytes_8}
 use Rattle.buffer.specs.Lists.{all}
 use Rattle.buffer.specs.Splice.{region}
 use Rattle.buffer.specs.Numbers.{bytes_of, number, byte}
@@ -94,15 +97,6 @@ bytes_of_add (suc j) k n =
     rw (z, bytes_of_suc (suc (j + k)) n, bytes_of_add j k (n % 256 ^ suc (j + k)), m, digits_div (n / 256 ^ k % 256 ^ suc j) low, digits_mod (n / 256 ^ k % 256 ^ suc j) low, q)
     (rw (bytes_of_suc (suc j) (n / 256 ^ k)))
 
--- four digits as code computes them
-pub bytes_of_4 : (x : ℕ) → bytes_of 4 x ≡ x / 16777216 ∷ x / 65536 % 256 ∷ x / 256 % 256 ∷ x % 256 ∷ []
-unfolding bytes_of
-bytes_of_4 x =
-    let e1 : x % 16777216 / 65536 ≡ x / 65536 % 256 = omega arith in
-    let e2 : x % 16777216 % 65536 / 256 ≡ x / 256 % 256 = omega arith in
-    let e3 : x % 16777216 % 65536 % 256 / 1 ≡ x % 256 = omega arith in
-    rw (e1, e2, e3)
-
 digits : (a b c d : ℕ) → number (a ∷ b ∷ c ∷ d ∷ []) ≡ a * 16777216 + b * 65536 + c * 256 + d
 unfolding number
 digits a b c d = omega arith
@@ -122,3 +116,30 @@ pub number_8 : (s : List ℕ) (o : ℕ) → o + 8 ≤ length s → number (regio
 number_8 s o h =
     let l : length (region s (o + 4) 4) ≡ 4 = length_region s (o + 4) 4 (omega arith) in
     rw (region_add s o 4 4, number_append (region s o 4) (region s (o + 4) 4), l)
+
+-- ---- what std reads and writes, highest byte first
+
+pub four_read : (s : List ℕ) → length s ≡ 4 → from_be_bytes w32 s ≡ number s
+four_read s l =
+    let all : region s 0 4 ≡ s = take_all 4 s (omega arith) in
+    omega (arith, rw all at (number_4 s 0 (omega arith)))
+
+pub eight_read : (s : List ℕ) → length s ≡ 8 → from_be_bytes w64 s ≡ number s
+eight_read s l =
+    let all : region s 0 8 ≡ s = take_all 8 s (omega arith) in
+    omega (arith, rw all at (number_8 s 0 (omega arith)), number_4 s 0 (omega arith), number_4 s 4 (omega arith))
+
+byte_at : (s : List ℕ) → all byte s ≡ true → (i : ℕ) → get_or s i 0 < 256
+byte_at [] a i = omega arith
+byte_at (b ∷ s) a zero = ltb-true b 256 (and_left (byte b) (all byte s) a)
+byte_at (b ∷ s) a (suc i) = byte_at s (and_right (byte b) (all byte s) a) i
+
+pub four_written : (x : ℕ) → x < 2 ^ 32 → to_be_bytes w32 x ≡ bytes_of 4 x
+four_written x h =
+    let l = length_bytes_of 4 x in
+    be_bytes_4 (bytes_of 4 x) x l (byte_at (bytes_of 4 x) (bytes_of_bytes 4 x h)) (sym (four_read (bytes_of 4 x) l ∙ number_bytes_of 3 x))
+
+pub eight_written : (x : ℕ) → x < 2 ^ 64 → to_be_bytes w64 x ≡ bytes_of 8 x
+eight_written x h =
+    let l = length_bytes_of 8 x in
+    be_bytes_8 (bytes_of 8 x) x l (byte_at (bytes_of 8 x) (bytes_of_bytes 8 x h)) (sym (eight_read (bytes_of 8 x) l ∙ number_bytes_of 7 x))

@@ -170,17 +170,12 @@ pub set_splice : (s : List ℕ) (i v : ℕ) → i < length s → set s i v ≡ s
 unfolding splice
 set_splice s i v h = rw add-one (set_split s i v h)
 
--- one element more at the end, or at the front
+-- one element more at the end
 pub splice_snoc : (s : List ℕ) (o : ℕ) (b : List ℕ) (v : ℕ) → o + length b < length s → set (splice s o b) (o + length b) v ≡ splice s o (b ++ (v ∷ []))
 splice_snoc s o b v h =
     let fit : o + length b ≤ length s = omega arith in
     let k : o + length b < length (splice s o b) = rw (length_splice s o b fit) h in
     rw (set_splice (splice s o b) (o + length b) v k, splice_next s o b fit)
-
-pub splice_cons : (s : List ℕ) (o : ℕ) (b : List ℕ) (v : ℕ) → o + 1 + length b ≤ length s → set (splice s (o + 1) b) o v ≡ splice s o (v ∷ b)
-splice_cons s o b v h =
-    let k : o < length (splice s (o + 1) b) = rw (length_splice s (o + 1) b h) (omega arith) in
-    rw (set_splice (splice s (o + 1) b) o v k) (splice_prev s o (v ∷ []) b h)
 
 -- a region one longer, at its end or at its front
 pub region_snoc : (s : List ℕ) (o n : ℕ) → o + n < length s → region s o (n + 1) ≡ region s o n ++ (get_or s (o + n) 0 ∷ [])

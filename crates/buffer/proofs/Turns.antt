@@ -1,27 +1,23 @@
 -- One turn of each loop that writes a slice: what the slice is after one element more. Assumes nothing.
-use mathlib.Core.Path.{◌≡◌, sym}
+use mathlib.Core.Path.{◌≡◌}
 use Prim.Native.Nat.{ℕ, ◌+◌, ◌-◌, ◌≤◌, ◌<◌}
-use mathlib.Core.List.{List, [], ◌∷◌, ◌++◌}
+use mathlib.Core.List.{List, [], ◌∷◌, ◌++◌, append_assoc}
 use native.Mathlib.Omega.{arith}
-use lib.ListN.{length, get_or, set}
+use lib.ListN.{length, set}
+use Rattle.std.specs.List.{copy_within}
 use Rattle.buffer.specs.Splice.{splice, region}
-use Rattle.buffer.proofs.Splice.{region_before, region_add, splice_prev, length_region, get_d_after, set_splice, splice_snoc, splice_cons, region_snoc}
+use Rattle.buffer.proofs.Splice.{region_before, region_add, splice_is, splice_prev, length_region, set_splice, splice_snoc}
 
 pub grow : (s s₀ : List ℕ) (o i : ℕ) (b b' : List ℕ) (v : ℕ) → s ≡ splice s₀ o b → length b ≡ i → o + i < length s₀ → b ++ (v ∷ []) ≡ b'
     → set s (o + i) v ≡ splice s₀ o b'
 grow s s₀ o i b b' v e l h q = rw (e, ← l, ← q) (splice_snoc s₀ o b v (rw l h))
 
-pub grow_front : (s s₀ : List ℕ) (o : ℕ) (b : List ℕ) (v : ℕ) → s ≡ splice s₀ (o + 1) b → o + 1 + length b ≤ length s₀
-    → set s o v ≡ splice s₀ o (v ∷ b)
-grow_front s s₀ o b v e h = rw e (splice_cons s₀ o b v h)
-
--- one byte more of a move towards the front, and of one towards the end
-pub down_turn : (s s₀ : List ℕ) (from to i : ℕ) → s ≡ splice s₀ to (region s₀ from i) → to ≤ from → from + i < length s₀
-    → set s (to + i) (get_or s (from + i) 0) ≡ splice s₀ to (region s₀ from (i + 1))
-down_turn s s₀ from to i e h k =
-    let l : length (region s₀ from i) ≡ i = length_region s₀ from i (omega arith) in
-    let v : get_or s (from + i) 0 ≡ get_or s₀ (from + i) 0 = rw e (get_d_after s₀ to (region s₀ from i) (omega arith) (from + i) (omega arith)) in
-    rw v (grow s s₀ to i _ _ (get_or s₀ (from + i) 0) e l (omega arith) (sym (region_snoc s₀ from i k)))
+-- std's copy within a slice
+pub copied_within : (s : List ℕ) (from to n : ℕ) → from + n ≤ length s → copy_within s from (from + n) to ≡ splice s to (region s from n)
+copied_within s from to n h =
+    let l : length (region s from n) ≡ n = length_region s from n h in
+    let e : from + n - from ≡ n = omega arith in
+    rw (splice_is, l, e, append_assoc)
 
 -- k bytes more of a move towards the end
 pub up_turn : (s s₀ : List ℕ) (from to n i k : ℕ) → s ≡ splice s₀ (to + i) (region s₀ (from + i) (n - i)) → from ≤ to → to + n ≤ length s₀ → i ≤ n → k ≤ i
@@ -36,14 +32,9 @@ up_turn s s₀ from to n i k e h room le few =
     rw (r, e, e1, e2, region_add s₀ (from + (i - k)) k (n - i), e3)
     (splice_prev s₀ (to + (i - k)) (region s₀ (from + (i - k)) k) (region s₀ (from + i) (n - i)) (omega arith))
 
--- two, three and four elements, one by one
+-- two and three elements, one by one
 pub set_2 : (s : List ℕ) (o a b : ℕ) → o + 2 ≤ length s → set (set s o a) (o + 1) b ≡ splice s o (a ∷ b ∷ [])
 set_2 s o a b h = rw (set_splice s o a (omega arith), splice_snoc s o (a ∷ []) b (omega arith))
 
 pub set_3 : (s : List ℕ) (o a b c : ℕ) → o + 3 ≤ length s → set (set (set s o a) (o + 1) b) (o + 2) c ≡ splice s o (a ∷ b ∷ c ∷ [])
 set_3 s o a b c h = rw (set_2 s o a b (omega arith), splice_snoc s o (a ∷ b ∷ []) c (omega arith))
-
-pub set_4 : (s : List ℕ) (o a b c d : ℕ) → o + 4 ≤ length s
-    → set (set (set (set s o a) (o + 1) b) (o + 2) c) (o + 3) d ≡ splice s o (a ∷ b ∷ c ∷ d ∷ [])
-set_4 s o a b c d h =
-    rw (set_3 s o a b c (omega arith), splice_snoc s o (a ∷ b ∷ c ∷ []) d (omega arith))

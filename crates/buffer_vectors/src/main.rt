@@ -2,107 +2,77 @@
 // A command: kind, three small numbers, 4 bytes not used, 8 bytes of data. The cases and what they print come from tools/oracle/buffer.py.
 #![tactic(auto)]
 
-ghost use Rattle.std.specs.Prelude.{◌≡◌, length};
-
+use buffer::moves::{clear, copy_from, move_within};
+use buffer::numbers::{get32, get64, put32, put64};
 use console::Console;
 use std::io;
 
-const NEWLINE: [u8; 1] = [10];
-
-fn wide(b: u8) -> usize {
-    b as usize
-}
+const SIZE: usize = 64;
 
 fn copy(s: &mut [u8; 64], at: usize, src: &[u8]) {
-    if src.len() <= 64 {
-        if at <= 64 - src.len() {
-            buffer::moves::copy_from(s, at, src);
-        }
+    if src.len() <= SIZE && at <= SIZE - src.len() {
+        copy_from(s, at, src);
     }
 }
 
 fn shift(s: &mut [u8; 64], from: usize, to: usize, n: usize) {
-    if n <= 64 {
-        if from <= 64 - n {
-            if to <= 64 - n {
-                buffer::moves::move_within(s, from, to, n);
-            }
-        }
+    if n <= SIZE && from.max(to) <= SIZE - n {
+        move_within(s, from, to, n);
     }
 }
 
-fn clear(s: &mut [u8; 64], at: usize, n: usize) {
-    if n <= 64 {
-        if at <= 64 - n {
-            buffer::moves::clear(s, at, n);
-        }
+fn zero(s: &mut [u8; 64], at: usize, n: usize) {
+    if n <= SIZE && at <= SIZE - n {
+        clear(s, at, n);
     }
 }
 
 // Writes the number in 4 bytes at `at`, and prints the number that then stands one byte before.
-fn put32(console: &mut Console, s: &mut [u8; 64], at: usize, x: u32) {
-    if 1 <= at {
-        if at <= 60 {
-            buffer::numbers::put32(s, at, x);
-            let back = buffer::numbers::get32(s, at - 1);
-            console.print_decimal(back as u64);
-            console.print(&NEWLINE);
-        }
+fn write32(console: &mut Console, s: &mut [u8; 64], at: usize, x: u32) {
+    if 1 <= at && at <= SIZE - 4 {
+        put32(s, at, x);
+        console.print_decimal(u64::from(get32(s, at - 1)));
+        console.print(b"\n");
     }
 }
 
-fn put64(console: &mut Console, s: &mut [u8; 64], at: usize, x: u64) {
-    if 1 <= at {
-        if at <= 56 {
-            buffer::numbers::put64(s, at, x);
-            let back = buffer::numbers::get64(s, at - 1);
-            console.print_decimal(back);
-            console.print(&NEWLINE);
-        }
+fn write64(console: &mut Console, s: &mut [u8; 64], at: usize, x: u64) {
+    if 1 <= at && at <= SIZE - 8 {
+        put64(s, at, x);
+        console.print_decimal(get64(s, at - 1));
+        console.print(b"\n");
     }
 }
 
-fn run(console: &mut Console, s: &mut [u8; 64], c: &[u8])
-    requires { length c.now ≡ 16 }
-{
-    let kind = c[0];
-    let a = wide(c[1]);
-    let b = wide(c[2]);
-    let n = wide(c[3]);
-    if kind == 0 {
-        copy(s, a, &c[8..16]);
-    } else if kind == 1 {
-        shift(s, a, b, n);
-    } else if kind == 2 {
-        clear(s, a, b);
-    } else if kind == 3 {
-        put32(console, s, a, buffer::numbers::get32(c, 8));
-    } else {
-        put64(console, s, a, buffer::numbers::get64(c, 8));
+fn run(console: &mut Console, s: &mut [u8; 64], command: &[u8; 16]) {
+    let a = usize::from(command[1]);
+    let b = usize::from(command[2]);
+    let n = usize::from(command[3]);
+    match command[0] {
+        0 => copy(s, a, &command[8..]),
+        1 => shift(s, a, b, n),
+        2 => zero(s, a, b),
+        3 => write32(console, s, a, get32(command, 8)),
+        _ => write64(console, s, a, get64(command, 8)),
     }
 }
 
 fn print(console: &mut Console, s: &[u8; 64]) {
-    let mut i: usize = 0;
-    while i < 64 {
-        console.print_hex(s[i]);
-        i += 1;
+    for b in s {
+        console.print_hex(*b);
     }
-    console.print(&NEWLINE);
+    console.print(b"\n");
 }
 
 fn main(rt: HostRuntime) -> io::Result<()> {
     let mut console = Console::new(rt.stdin(), rt.stdout());
     let mut input = [0u8; 65536];
     let n = console.read_full(&mut input);
-    let mut s = [0u8; 64];
-    let mut i: usize = 0;
-    while i < n / 16 {
-        let at = 16 * i;
-        let end = at + 16;
-        run(&mut console, &mut s, &input[at..end]);
+    let (commands, _) = input[..n].as_chunks::<16>();
+    let mut s = [0u8; SIZE];
+    for command in commands {
+        run(&mut console, &mut s, command);
         print(&mut console, &s);
-        i += 1;
     }
     console.finish()
 }

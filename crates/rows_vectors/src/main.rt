@@ -4,135 +4,140 @@
 ghost use Rattle.std.specs.Prelude.{◌+◌, ◌*◌, ◌≤◌, ◌<◌, length};
 ghost use Rattle.rows.specs.Sizes.{path_limit, row_size};
 
+use buffer::moves::{clear, copy_from};
+use buffer::numbers::{get64, put64};
 use console::Console;
-use rows::order::Ordering;
 use rows::sizes::{LENGTH_AT, PATH_AT, RECORD_SIZE, REFERENCE_AT, ROW_SIZE};
+use std::cmp::Ordering;
 use std::io;
 
 // The last byte of a reference.
 const MARK_AT: usize = LENGTH_AT - 1;
 
-// One turn of a linear congruential generator of 31 bits.
-fn next(x: u64) -> u64
-    requires { x < 2147483648 }
-    ensures { result < 2147483648 }
-{
-    (x * 1103515245 + 12345) % 2147483648
+// A linear congruential generator of 31 bits.
+#[derive(Clone, Copy)]
+struct Random {
+    x: u64,
+    ghost bits: { x < 2147483648 },
 }
 
-// Writes the row of an entry, its reference zeros but for the last byte.
-fn put(s: &mut [u8], at: usize, value: u64, path: &[u8], mark: u8)
-    requires { (at + row_size ≤ length s.old) × (length path.now ≤ path_limit) }
-{
-    buffer::moves::clear(s, at, ROW_SIZE);
-    buffer::numbers::put64(s, at, value);
-    s[at + MARK_AT] = mark;
-    s[at + LENGTH_AT] = path.len() as u8;
-    buffer::moves::copy_from(s, at + PATH_AT, path);
+impl Random {
+    fn next(self) -> Random {
+        Random {
+            x: (self.x * 1103515245 + 12345) % 2147483648,
+        }
+    }
+
+    fn letter(self, divisor: u64) -> u8
+        requires { 0 < divisor }
+    {
+        if self.x / divisor % 2 == 0 {
+            b'a'
+        } else {
+            b'b'
+        }
+    }
 }
 
-fn letter(x: u64) -> u8 {
-    if x % 2 == 0 { b'a' } else { b'b' }
+// An entry whose reference is zeros but for the last byte.
+#[derive(Clone, Copy)]
+struct Entry<'a> {
+    value: u64,
+    path: &'a [u8],
+    mark: u8,
+    ghost short: { length path.now ≤ path_limit },
+}
+
+impl<'a> Entry<'a> {
+    fn new(value: u64, path: &'a [u8], mark: u8) -> Entry<'a>
+        requires { length path.now ≤ path_limit }
+    {
+        Entry { value, path, mark }
+    }
+}
+
+// Writes the row of an entry.
+fn put(s: &mut [u8], entry: Entry<'_>)
+    requires { row_size ≤ length s.old }
+{
+    clear(s, 0, ROW_SIZE);
+    put64(s, 0, entry.value);
+    s[MARK_AT] = entry.mark;
+    s[LENGTH_AT] = entry.path.len() as u8;
+    copy_from(s, PATH_AT, entry.path);
 }
 
 // A record with few values, paths and references, so that many are equal; what follows the row differs.
-fn generate(s: &mut [u8], at: usize, width: usize, x: u64)
-    requires { (row_size ≤ width) × (at + width ≤ length s.old) × (x < 2147483648) }
+fn generate(record: &mut [u8], random: Random)
+    requires { row_size ≤ length record.old }
 {
     let mut path = [b'/'; 8];
-    path[1] = letter(x / 262144);
-    path[3] = letter(x / 524288);
-    path[5] = letter(x / 1048576);
-    path[7] = letter(x / 2097152);
-    let end = (x / 65536 % 4) as usize * 2 + 2;
-    buffer::moves::clear(s, at, width);
+    path[1] = random.letter(262144);
+    path[3] = random.letter(524288);
+    path[5] = random.letter(1048576);
+    path[7] = random.letter(2097152);
+    let end = (random.x / 65536 % 4) as usize * 2 + 2;
+    record.fill(0);
     put(
-        s,
-        at,
-        x / 4194304 % 5,
-        &path[0..end],
-        (x / 33554432 % 3) as u8,
+        record,
+        Entry::new(
+            random.x / 4194304 % 5,
+            &path[..end],
+            (random.x / 33554432 % 3) as u8,
+        ),
     );
-    if ROW_SIZE < width {
-        s[at + ROW_SIZE] = (x / 65536 % 251) as u8;
+    if ROW_SIZE < record.len() {
+        record[ROW_SIZE] = (random.x / 65536 % 251) as u8;
     }
 }
 
-fn fill(s: &mut [u8], from: usize, to: usize, width: usize, seed: u64)
-    requires { (row_size ≤ width) × (to ≤ length s.old) × (from ≤ to) × (seed < 2147483648) }
+fn fill(s: &mut [u8], width: usize)
+    requires { row_size ≤ width }
 {
-    let mut at = from;
-    let mut x = seed;
-    while width <= to - at {
-        x = next(x);
-        generate(s, at, width, x);
-        at += width;
+    let mut random = Random { x: 1 };
+    for record in s.chunks_exact_mut(width) {
+        random = random.next();
+        generate(record, random);
     }
 }
 
-fn wide(x: u8) -> u64
-    ensures { result < 256 }
-{
-    x as u64
-}
-
-fn print_text(console: &mut Console, text: &[u8]) {
-    console.print(text);
-}
-
-fn print_hex(console: &mut Console, s: &[u8], from: usize, to: usize)
-    requires { (from ≤ to) × (to ≤ length s.now) }
-{
-    let mut i = from;
-    while i < to {
-        console.print_hex(s[i]);
-        i += 1;
+fn print_hex(console: &mut Console, bytes: &[u8]) {
+    for b in bytes {
+        console.print_hex(*b);
     }
-}
-
-fn print_number(console: &mut Console, n: u64) {
-    console.print_decimal(n);
 }
 
 // Value, path, reference, and the byte after the row where there is one.
-fn print_record(console: &mut Console, s: &[u8], at: usize, width: usize)
-    requires { (row_size ≤ width) × (at + width ≤ length s.now) }
+fn print_record(console: &mut Console, record: &[u8])
+    requires { row_size ≤ length record.now }
 {
-    print_number(console, buffer::numbers::get64(s, at));
-    print_text(console, b",");
-    let start = at + PATH_AT;
-    let end = start + wide(s[at + LENGTH_AT]) as usize;
-    if end <= s.len() {
-        print_text(console, &s[start..end]);
+    console.print_decimal(get64(record, 0));
+    console.print(b",");
+    let end = PATH_AT + usize::from(record[LENGTH_AT]);
+    if end <= record.len() {
+        console.print(&record[PATH_AT..end]);
     }
-    print_text(console, b",");
-    print_hex(console, s, at + REFERENCE_AT, at + LENGTH_AT);
-    if ROW_SIZE < width {
-        print_text(console, b",");
-        print_hex(console, s, at + ROW_SIZE, at + ROW_SIZE + 1);
+    console.print(b",");
+    print_hex(console, &record[REFERENCE_AT..LENGTH_AT]);
+    if ROW_SIZE < record.len() {
+        console.print(b",");
+        console.print_hex(record[ROW_SIZE]);
     }
-    print_text(console, b"\n");
+    console.print(b"\n");
 }
 
-fn print_records(console: &mut Console, s: &[u8], from: usize, to: usize, width: usize)
-    requires { (row_size ≤ width) × (to ≤ length s.now) × (from ≤ to) }
+// Three bytes, the records behind them, and the last byte.
+fn print_case(console: &mut Console, s: &[u8], width: usize)
+    requires { (row_size ≤ width) × (4 ≤ length s.now) }
 {
-    let mut at = from;
-    while width <= to - at {
-        print_record(console, s, at, width);
-        at += width;
+    let end = s.len() - 1;
+    print_hex(console, &s[..3]);
+    console.print(b"\n");
+    for record in s[3..end].chunks_exact(width) {
+        print_record(console, record);
     }
-}
-
-// The records between the first three bytes and the one at `end`, and those bytes.
-fn print_case(console: &mut Console, s: &[u8], end: usize, width: usize)
-    requires { (row_size ≤ width) × (3 ≤ end) × (end < length s.now) }
-{
-    print_hex(console, s, 0, 3);
-    print_text(console, b"\n");
-    print_records(console, s, 3, end, width);
-    print_hex(console, s, end, end + 1);
-    print_text(console, b"\n");
+    print_hex(console, &s[end..]);
+    console.print(b"\n");
 }
 
 // Fills the lent bytes with n records behind three bytes and before one, sorts them and prints all.
@@ -140,56 +145,77 @@ fn sort_in(console: &mut Console, s: &mut [u8], n: usize, width: usize)
     requires { (row_size ≤ width) × (4 + n * width ≤ length s.old) }
 {
     let end = 3 + n * width;
-    fill(s, 3, end, width, 1);
-    buffer::moves::copy_from(s, 0, &[1, 2, 3]);
-    buffer::moves::copy_from(s, end, &[4]);
+    fill(&mut s[3..end], width);
+    copy_from(s, 0, &[1, 2, 3]);
+    s[end] = 4;
     rows::sort::sort(s, 3, n, width);
-    print_case(console, s, end, width);
+    print_case(console, &s[..end + 1], width);
 }
 
 fn sort_case(console: &mut Console, n: usize, width: usize)
     requires { (row_size ≤ width) × (4 + n * width ≤ 229004) }
 {
-    print_text(console, b"sort ");
-    print_number(console, n as u64);
-    print_text(console, b" of ");
-    print_number(console, width as u64);
-    print_text(console, b"\n");
+    console.print(b"sort ");
+    console.print_decimal(n as u64);
+    console.print(b" of ");
+    console.print_decimal(width as u64);
+    console.print(b"\n");
     let mut s = [0u8; 4 + 1000 * ROW_SIZE];
     sort_in(console, &mut s, n, width);
 }
 
 // Compares the rows of two entries.
-fn compare_case(console: &mut Console, v: u64, p: &[u8], r: u8, w: u64, q: &[u8], t: u8)
-    requires { (length p.now ≤ path_limit) × (length q.now ≤ path_limit) }
-{
+fn compare_case(console: &mut Console, a: Entry<'_>, b: Entry<'_>) {
     let mut x = [0u8; ROW_SIZE];
     let mut y = [0u8; ROW_SIZE];
-    put(&mut x, 0, v, p, r);
-    put(&mut y, 0, w, q, t);
-    print_record(console, &x, 0, ROW_SIZE);
-    let o = rows::order::compare(&x, &y);
-    match o {
-        Ordering::Less => print_text(console, b"comes before\n"),
-        Ordering::Equal => print_text(console, b"equals\n"),
-        Ordering::Greater => print_text(console, b"comes after\n"),
+    put(&mut x, a);
+    put(&mut y, b);
+    print_record(console, &x);
+    match rows::order::compare(&x, &y) {
+        Ordering::Less => console.print(b"comes before\n"),
+        Ordering::Equal => console.print(b"equals\n"),
+        Ordering::Greater => console.print(b"comes after\n"),
     }
     if rows::order::equal(&x, &y) {
-        print_text(console, b"and is the same as\n");
+        console.print(b"and is the same as\n");
     } else {
-        print_text(console, b"and is not the same as\n");
+        console.print(b"and is not the same as\n");
     }
-    print_record(console, &y, 0, ROW_SIZE);
+    print_record(console, &y);
 }
 
 fn main(rt: HostRuntime) -> io::Result<()> {
     let mut console = Console::new(rt.stdin(), rt.stdout());
-    compare_case(&mut console, 7, b"/a", 9, 7, b"/a/b", 1);
-    compare_case(&mut console, 7, b"/a/b", 1, 7, b"/a", 9);
-    compare_case(&mut console, 7, b"/b", 0, 7, b"/a/b", 0);
-    compare_case(&mut console, 1, b"/z", 9, 256, b"/a", 0);
-    compare_case(&mut console, 5, b"/a", 2, 5, b"/a", 1);
-    compare_case(&mut console, 5, b"/a", 2, 5, b"/a", 2);
+    compare_case(
+        &mut console,
+        Entry::new(7, b"/a", 9),
+        Entry::new(7, b"/a/b", 1),
+    );
+    compare_case(
+        &mut console,
+        Entry::new(7, b"/a/b", 1),
+        Entry::new(7, b"/a", 9),
+    );
+    compare_case(
+        &mut console,
+        Entry::new(7, b"/b", 0),
+        Entry::new(7, b"/a/b", 0),
+    );
+    compare_case(
+        &mut console,
+        Entry::new(1, b"/z", 9),
+        Entry::new(256, b"/a", 0),
+    );
+    compare_case(
+        &mut console,
+        Entry::new(5, b"/a", 2),
+        Entry::new(5, b"/a", 1),
+    );
+    compare_case(
+        &mut console,
+        Entry::new(5, b"/a", 2),
+        Entry::new(5, b"/a", 2),
+    );
     sort_case(&mut console, 0, ROW_SIZE);
     sort_case(&mut console, 1, ROW_SIZE);
     sort_case(&mut console, 2, ROW_SIZE);

@@ -1,11 +1,7 @@
--- The length stays, and what is left to fill falls.
-use Prim.Native.Nat.{◌-◌, ◌≤◌, ◌<◌}
-use mathlib.Core.Path.{◌≡◌}
-use lib.ListN.{length}
+-- The number stays small.
+use Prim.Native.Nat.{◌<◌}
 use Rattle.rows_vectors.proofs.fill.Given as goal
 
-abbrev pub invariant-loop-at : goal.invariant-loop-at
-invariant-loop-at l = (length l.s ≡ length l.initial.s) × (l.at ≤ l.to) × (l.x < 2147483648)
-
-abbrev pub decreases-loop-at : goal.decreases-loop-at
-decreases-loop-at l = l.to - l.at
+abbrev pub invariant-loop-record : goal.invariant-loop-record
+invariant-loop-record l =
+    (goal.iterator-loop-record).can_next l.record-iterator × (goal.iterator-loop-record).is_finite l.record-iterator × (l.random.0 < 2147483648)
