@@ -9,9 +9,9 @@ use buffer::numbers::get64;
 use console::Console;
 use linespell::spell::{spell_reply, spell_row};
 use logline::sizes::{REPLY_LIMIT, ROW_LINE_LIMIT};
+use nivruska::Reply;
 use rows::sizes::{LENGTH_AT, PATH_AT, PATH_LIMIT, RECORD_SIZE, REFERENCE_AT, ROW_SIZE};
 use std::io;
-use store::reply::Reply;
 
 const NODES_AT: usize = ROW_SIZE + 1;
 
@@ -40,13 +40,13 @@ fn add_row(console: &mut Console, store: &mut [u8], row: &[u8; ROW_SIZE]) {
     if PATH_LIMIT < n {
         return;
     }
-    let reply = nivruska::add(
+    let added = nivruska::add(
         store,
         &row[PATH_AT..PATH_AT + n],
         get64(row, 0),
         &row[REFERENCE_AT..LENGTH_AT],
     );
-    print_reply(console, reply);
+    print_reply(console, Reply::from(added));
 }
 
 fn add_rows(console: &mut Console, store: &mut [u8]) {
@@ -90,11 +90,13 @@ fn main(rt: HostRuntime) -> io::Result<()> {
     let mut console = Console::new(rt.stdin(), rt.stdout());
     let mut store = [0u8; STORE_SIZE];
     let mut answer = [0u8; ANSWER_SIZE];
-    let reply = nivruska::setup(&mut store, 9, 1, 2);
-    print_reply(&mut console, reply);
+    let prepared = nivruska::setup(&mut store, 9, 1, 2);
+    print_reply(&mut console, Reply::from(prepared));
     add_rows(&mut console, &mut store);
-    let reply = nivruska::read_level(&store, 0, &mut answer);
-    print_records(&mut console, &answer, reply.first as usize);
-    print_reply(&mut console, reply);
+    let records = nivruska::read_level(&store, 0, &mut answer);
+    if let Ok(n) = records {
+        print_records(&mut console, &answer, n);
+    }
+    print_reply(&mut console, Reply::from(records));
     console.finish()
 }

@@ -12,9 +12,9 @@ use Rattle.buffer.specs.Lists.{flat, pick}
 use Rattle.buffer.specs.Splice.{splice}
 use Rattle.buffer.proofs.Sums.{length_pick, count_most}
 use Rattle.buffer.proofs.Tests.{or_left_false, or_right_false, not-true}
-use Rattle.matcher.specs.Form.{pattern_form, pattern_number}
-use Rattle.matcher.specs.declared.form.Form.{Form}
-use Rattle.matcher.specs.declared.form.Form.TheVariants.{Fine, TooLong, Malformed}
+use Rattle.std.proofs.Common.{Ok, Err}
+use Rattle.matcher.specs.Form.{Form, pattern_form, pattern_number}
+use Rattle.matcher.specs.declared.form.FormError.TheVariants.{TooLong, Malformed}
 use Rattle.rows.specs.Sizes.{row_size}
 use Rattle.rows.specs.Entry.{row}
 use Rattle.rows.specs.Order.{entry_order}
@@ -76,10 +76,10 @@ never_11 n f q = go (no_store n f) (pattern_form q.pattern) (ltb q.high q.low)
   where
     go : (w : Bool) (p : Form) (v : Bool) → first_of ((4 when w) ∷ pattern_number p ∷ (10 when v) ∷ []) ≡ 11 → ⊥
     go true p v e = let z : ◌≡◌ {A = ℕ} 4 11 = e in omega arith
-    go false TooLong v e = let z : ◌≡◌ {A = ℕ} 8 11 = e in omega arith
-    go false Malformed v e = let z : ◌≡◌ {A = ℕ} 7 11 = e in omega arith
-    go false Fine true e = let z : ◌≡◌ {A = ℕ} 10 11 = e in omega arith
-    go false Fine false e = let z : ◌≡◌ {A = ℕ} 0 11 = e in omega arith
+    go false (Err TooLong) v e = let z : ◌≡◌ {A = ℕ} 8 11 = e in omega arith
+    go false (Err Malformed) v e = let z : ◌≡◌ {A = ℕ} 7 11 = e in omega arith
+    go false (Ok fine) true e = let z : ◌≡◌ {A = ℕ} 10 11 = e in omega arith
+    go false (Ok fine) false e = let z : ◌≡◌ {A = ℕ} 0 11 = e in omega arith
 
 pub always_enough : AlwaysEnough
 always_enough b q answer e eleven = go (search_number store_size (front b) q) refl

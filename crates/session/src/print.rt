@@ -5,12 +5,12 @@ ghost use Rattle.rows.specs.Sizes.{row_size};
 ghost use Rattle.rows.specs.Records.{records};
 ghost use Rattle.logline.specs.Sizes.{reply_limit, row_line_limit};
 ghost use Rattle.logline.specs.Spelling.{row_line, Wrote};
-ghost use Rattle.store.specs.Said.{said};
+ghost use Rattle.nivruska.specs.Replied.{replied};
 ghost use Rattle.session.specs.Printed.{reply_line};
 
 use logline::spell::{spell_reply, spell_row};
+use nivruska::Reply;
 use rows::sizes::ROW_SIZE;
-use store::reply::Reply;
 
 // A line for each of the first n rows.
 pub(crate) fn print_rows(answer: &[u8], n: usize, out: &mut [u8]) -> usize
@@ -30,7 +30,7 @@ pub(crate) fn print_rows(answer: &[u8], n: usize, out: &mut [u8]) -> usize
 #[tactic(auto, unfolding(crate::specs::Printed::reply_line))]
 pub(crate) fn print_reply(reply: Reply, out: &mut [u8], at: usize) -> usize
     requires { at + reply_limit ≤ length out.old }
-    ensures { Wrote out.old at (reply_line (said reply)) out.new result }
+    ensures { Wrote out.old at (reply_line (replied reply)) out.new result }
 {
     spell_reply(out, at, reply.number as u64, reply.first, reply.second)
 }

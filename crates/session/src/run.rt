@@ -8,8 +8,8 @@ use crate::print::{print_reply, print_rows};
 use crate::sizes::{ANSWER_SIZE, PRINT_LIMIT, STORE_SIZE};
 use logline::command::Command;
 use logline::reader::parse;
+use nivruska::Reply;
 use rows::sizes::REFERENCE_SIZE;
-use store::reply::Reply;
 
 // The memory on which lines are carried out. What the last one printed is the first of `out`, `printed` bytes.
 #[derive(Drop)]
@@ -37,7 +37,7 @@ impl Machine {
     fn setup(&mut self, m: u64, l: u64, tau: u64)
         ensures { Ran (setup m l tau) self.old.store self.new.store self.old.out self.new.out self.new.printed }
     {
-        let reply = nivruska::setup(&mut self.store, m, l, tau);
+        let reply = Reply::from(nivruska::setup(&mut self.store, m, l, tau));
         self.printed = print_reply(reply, &mut self.out, 0);
     }
 
@@ -45,7 +45,7 @@ impl Machine {
     fn add(&mut self, value: u64, reference: &[u8; REFERENCE_SIZE], path: &[u8])
         ensures { Ran (addition value reference.now path.now) self.old.store self.new.store self.old.out self.new.out self.new.printed }
     {
-        let reply = nivruska::add(&mut self.store, path, value, reference);
+        let reply = Reply::from(nivruska::add(&mut self.store, path, value, reference));
         self.printed = print_reply(reply, &mut self.out, 0);
     }
 
@@ -53,13 +53,13 @@ impl Machine {
     fn search(&mut self, low: u64, high: u64, pattern: &[u8])
         ensures { Ran (searching low high pattern.now) self.old.store self.new.store self.old.out self.new.out self.new.printed }
     {
-        let reply = nivruska::search(&self.store, pattern, low, high, &mut self.answer);
-        if reply.number != 0 {
-            self.printed = print_reply(reply, &mut self.out, 0);
-            return;
+        match nivruska::search(&self.store, pattern, low, high, &mut self.answer) {
+            Ok(found) => {
+                let at = print_rows(&self.answer, found.rows, &mut self.out);
+                self.printed = print_reply(Reply::from(found), &mut self.out, at);
+            }
+            Err(refusal) => self.printed = print_reply(Reply::from(refusal), &mut self.out, 0),
         }
-        let at = print_rows(&self.answer, reply.first as usize, &mut self.out);
-        self.printed = print_reply(reply, &mut self.out, at);
     }
 
     // Number 12: a line that cannot be read, or one over 512 bytes, of which the bytes are not there.

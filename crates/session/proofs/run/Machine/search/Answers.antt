@@ -1,21 +1,23 @@
 -- The rows where the search was accepted, and the reply.
+use mathlib.Core.Path.{refl}
 use native.Mathlib.Omega.{arith}
+use Rattle.session.proofs.Said.{same_line, refused_some}
 use Rattle.session.proofs.Running.{room_there, ran_refused, ran_accepted}
 use Rattle.session.proofs.run.Machine.search.Goals as goal
 
-pub returns-then-reply-ne0 : goal.returns-then-reply-ne0
-returns-then-reply-ne0 c = ran_refused (omega arith) (omega arith) c.search-reply.ensures c.if-reply-ne0.true c.print_reply-self.ensures
-
 pub print_rows-at-requires : goal.print_rows-at-requires
 print_rows-at-requires c =
-    let s = c.search-reply in
-    let r = room_there s.ensures c.if-reply-ne0.false in
-    (omega (arith, r, s.auto.answer), omega (arith, r))
+    let r = room_there c.in-Ok.ensures refl in
+    (omega (arith, r, c.search.auto.answer), omega (arith, r, c.search.auto.answer))
 
-pub print_reply-self-requires-2 : goal.print_reply-self-requires-2
-print_reply-self-requires-2 c =
-    let r = room_there c.search-reply.ensures c.if-reply-ne0.false in
-    omega (arith, r, c.print_rows-at.ensures.upper_bound, c.print_rows-at.auto.out)
+pub print_reply-self-requires : goal.print_reply-self-requires
+print_reply-self-requires c =
+    let r = room_there c.in-Ok.ensures refl in
+    omega (arith, r, c.search.auto.answer, c.print_rows-at.ensures.upper_bound, c.print_rows-at.auto.out)
 
-pub returns : goal.returns
-returns c = ran_accepted (omega arith) (omega arith) c.search-reply.ensures c.if-reply-ne0.false c.print_rows-at.ensures.wrote c.print_reply-self-2.ensures
+pub returns-in-Ok : goal.returns-in-Ok
+returns-in-Ok c = ran_accepted (omega arith) (omega arith) c.in-Ok.ensures refl c.print_rows-at.ensures.wrote (same_line c.from.ensures c.print_reply-self.ensures)
+
+pub returns-in-Err : goal.returns-in-Err
+returns-in-Err c =
+    ran_refused (omega arith) (omega arith) c.in-Err.ensures (refused_some c.in-Err.refusal) (same_line c.from-in-Err.ensures c.print_reply-self-in-Err.ensures)

@@ -1,7 +1,9 @@
--- The call's reply, printed.
+-- The reply that the call's result says, printed.
 use native.Mathlib.Omega.{arith}
+use Rattle.store.specs.Said.{done}
+use Rattle.session.proofs.Said.{said_line}
 use Rattle.session.proofs.Running.{ran_setup}
 use Rattle.session.proofs.run.Machine.setup.Goals as goal
 
 pub returns : goal.returns
-returns c = ran_setup (omega arith) c.setup-reply.auto.store c.print_reply-self.ensures _ _ _ c.setup-reply.ensures
+returns c = ran_setup (omega arith) c.setup.auto.store (said_line done _ c.setup.result c.from-reply.ensures c.print_reply-self.ensures) _ _ _ c.setup.ensures
