@@ -1,6 +1,7 @@
 -- A trie in its region, and the same trie with a key added. Assumes nothing.
 use mathlib.Core.Path.{◌≡◌, refl, sym, ap, ◌∙◌}
 use Prim.Native.Nat.{ℕ, ◌+◌, ◌*◌, ◌-◌, ◌≤◌, ◌<◌}
+use Rattle.std.specs.Prelude.{None}
 use mathlib.Core.List.{List, [], ◌∷◌, ◌++◌, append-nil, append_assoc}
 use native.Mathlib.Omega.{arith}
 use native.Mathlib.Nat.{zero-add}
@@ -64,7 +65,7 @@ module _ (m used : ℕ) (x : Key) (store : List ℕ) (fits : front_room + entry_
         are = λ f w a k u r e. absurd (omega (arith, h, r));
       }
 
-  pub grows : (own : List ℕ) (r : ℕ) → length own ≡ entry_room * m → Added old 0 used used 0 node_limit x own r → (after : List ℕ) → after ≡ splice store front_room own
+  pub grows : (own : List ℕ) (r : ℕ) → length own ≡ entry_room * m → Added old 0 used used None node_limit x own r → (after : List ℕ) → after ≡ splice store front_room own
       → SmallGrown m used x store after
   grows own r l d after e =
       record {
