@@ -1,5 +1,6 @@
 pub mod Filling
 pub mod Putting
+pub mod Noting
 pub mod Splitting
-pub mod Stepping
+pub mod Turning
 pub mod Gathering

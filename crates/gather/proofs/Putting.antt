@@ -3,23 +3,21 @@
 use mathlib.Core.Path.{◌≡◌, refl, sym, ap, ap₂, ◌∙◌}
 use mathlib.Core.Bool.{Bool, true, cond}
 use mathlib.Core.Logic.{⊎_elim}
-use Prim.Native.Nat.{ℕ, zero, suc, ◌+◌, ◌-◌, ◌*◌, ◌≤◌, ◌<◌}
+use Prim.Native.Nat.{ℕ, zero, suc, ◌+◌, ◌*◌, ◌≤◌, ◌<◌}
 use mathlib.Core.List.{List, [], ◌∷◌, ◌++◌, append_assoc, append-nil, map}
 use native.Mathlib.Omega.{arith}
-use lib.ListN.{length, take, drop, length-append, length-map}
+use lib.ListN.{length, take, length-append, length-map}
 use lib.Dec.{ltb}
-use lib.Seq.{take_all, take-append-le, take-take, drop-drop}
+use lib.Seq.{take_all, take-append-le}
 use borrow.Author.Tests.{lt-ltb, le-ltb, eq-eqb}
 use Rattle.buffer.specs.Lists.{all, flat}
 use Rattle.buffer.specs.Splice.{splice}
 use Rattle.buffer.proofs.Lists.{map_append, flat_append, tested_append}
-use Rattle.buffer.proofs.Splice.{length_splice, splice_nil, splice_then, take_before, region_drop}
+use Rattle.buffer.proofs.Splice.{length_splice, splice_nil, splice_then, take_before}
 use Rattle.buffer.proofs.Tests.{and_left, and_right, and_both}
 use Rattle.rows.proofs.Compare.{less?}
 use Rattle.rows.proofs.Records.{length_joined, wide, record_inside}
 use Rattle.trie_theory.specs.Forest.{Key}
-use Rattle.trie_read.specs.Shape.{part}
-use Rattle.trie_read.proofs.Stretch.{length_part}
 use Rattle.gather.specs.KeySlots.{has_slot, known}
 use Rattle.gather.specs.Walks.{joined, written, PutBy}
 
@@ -259,31 +257,3 @@ module _ {T : Type 0} {ok : T → Bool} {g : T → List ℕ} {Has : List T → T
                     ∙ r.all;
               };
         }
-
--- what stands before `out` is read as it was
-pub front_part : (out a e : ℕ) (s s' : List ℕ) → take out s' ≡ take out s → length s' ≡ length s → a ≤ e → e ≤ out → e ≤ length s → part a e s' ≡ part a e s
-front_part out a e s s' f l h o i =
-    let n : a + (e - a) ≡ e = omega arith in
-    let x : take e s' ≡ take e s = sym (take-take e out s' o) ∙ ap (take e) f ∙ take-take e out s o in
-    let same : drop a (take (a + (e - a)) s') ≡ drop a (take (a + (e - a)) s) = rw n (ap (drop a) x) in
-    region_drop s' a (e - a) (omega arith) ∙ same ∙ sym (region_drop s a (e - a) (omega arith))
-
-take_inside : (m i e : ℕ) (s : List ℕ) → i + m ≤ e → take m (drop i (take e s)) ≡ take m (drop i s)
-take_inside m zero e s h = take-take m e s (omega arith)
-take_inside m (suc i) zero s h = absurd (omega arith)
-take_inside m (suc i) (suc e) [] h = refl
-take_inside m (suc i) (suc e) (x ∷ s) h = take_inside m i e s (omega arith)
-
--- a part of a part
-pub part_inside : (s : List ℕ) (a e i j : ℕ) → i ≤ j → a + j ≤ e → part i j (part a e s) ≡ part (a + i) (a + j) s
-part_inside s a e i j h l =
-    let n : j - i ≡ a + j - (a + i) = omega arith in
-    take_inside (j - i) i (e - a) (drop a s) (omega arith) ∙ rw (drop-drop i a s, n)
-
--- the last part of a part
-pub part_rest : (s : List ℕ) (a e i : ℕ) → a + i ≤ e → e ≤ length s → part i (length (part a e s)) (part a e s) ≡ part (a + i) e s
-part_rest s a e i h l =
-    let n : length (part a e s) ≡ e - a = length_part s a e l in
-    let m : a + (e - a) ≡ e = omega arith in
-    let q : part i (e - a) (part a e s) ≡ part (a + i) (a + (e - a)) s = part_inside s a e i (e - a) (omega arith) (omega arith) in
-    rw n (q ∙ ap (λ (j : ℕ). part (a + i) j s) m)

@@ -6,8 +6,7 @@ use Rattle.rows.specs.Sizes.{value_size, reference_size, path_at, row_size}
 use Rattle.trie_theory.specs.Forest.{Strings, Key, under}
 use Rattle.trie_theory.specs.Strings.{at}
 use Rattle.entries.specs.Slots.{slot_size}
-use Rattle.trie_read.specs.Sizes.{suffix_size}
-use Rattle.trie_read.specs.Shape.{part, key_of}
+use Rattle.trie_read.specs.Shape.{key_of}
 
 -- a path and its end byte
 abbrev pub ended_limit : ℕ
@@ -33,6 +32,10 @@ key_row x = take row_size (key_slot x)
 unfoldable pub known : ℕ → ℕ → List ℕ → Strings
 known v p k = take v k ∷ region k path_at p ∷ []
 
--- the key of the first suffix in the bytes b, whose path bytes are b[path..next], behind the bytes k
-abbrev pub suffix_key : Strings → List ℕ → ℕ → ℕ → Key
-suffix_key k b path next = under k (key_of (part suffix_size path b) (part path next b) (part 2 suffix_size b))
+-- the key of a suffix with these strings and this reference, behind the bytes k
+abbrev pub suffix_key : Strings → List ℕ → List ℕ → List ℕ → Key
+suffix_key k value path reference = under k (key_of value path reference)
+
+-- strings have room behind v and p known bytes
+abbrev pub has_room : ℕ → ℕ → List ℕ → List ℕ → Bool
+has_room v p value path = leb (v + length value) value_size && leb (p + length path) ended_limit

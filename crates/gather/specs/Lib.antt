@@ -1,3 +1,4 @@
 pub mod KeySlots
 pub mod Walks
+pub mod Visits
 pub mod Gathered

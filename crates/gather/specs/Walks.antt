@@ -1,16 +1,16 @@
 -- What a walk over tries in bytes writes: for each key that has a slot some bytes, one after another. Assumes nothing: these are definitions.
-use Rattle.std.specs.Prelude.{ℕ, ◌+◌, ◌-◌, ◌*◌, ◌≤◌, ◌≡◌, Bool, true, cond, ◌&&◌, List, [], ◌∷◌, map, length, take, leb, ltb}
+use Rattle.std.specs.Prelude.{ℕ, ◌+◌, ◌*◌, ◌≡◌, Bool, true, false, cond, List, [], ◌∷◌, map, length, take, ltb, Option, MatchOption}
 use Rattle.buffer.specs.Lists.{all, All, pick, flat}
 use Rattle.buffer.specs.Splice.{splice}
-use Rattle.rows.specs.Sizes.{value_size}
-use Rattle.trie_theory.specs.Forest.{Strings, Key, Forest, join, under, keys}
-use Rattle.trie_theory.specs.Size.{height}
-use Rattle.trie_theory.specs.Encode.{Regular, encode}
-use Rattle.entries.specs.Slots.{slot_size}
-use Rattle.trie_read.specs.Sizes.{head_size}
-use Rattle.trie_read.specs.Shape.{Fixed, part}
+use Rattle.trie_theory.specs.Forest.{Strings, Key, join, under}
+use Rattle.trie_read.specs.Shape.{Fixed}
 use Rattle.trie_read.specs.Suffixes.{suffixes_bytes}
-use Rattle.gather.specs.KeySlots.{ended_limit, has_slot, known}
+use Rattle.gather.specs.KeySlots.{has_slot, has_room, known}
+use Rattle.gather.specs.declared.known.Known.{Known}
+
+-- the bytes known on the way down, as the code has them
+abbrev pub known_strings : Known → List ℕ → Strings
+known_strings x k = known x.value x.path k
 
 -- the bytes of keys or other things, one after another
 unfoldable pub joined : {A : Type 0} → (A → List ℕ) → List A → List ℕ
@@ -44,31 +44,13 @@ pub record SuffixKeys (k : Strings) (t : List ℕ) (ks : List Key) : Type 0 wher
   pub bytes : t ≡ suffixes_bytes suffixes
   pub is : ks ≡ pick has_slot (map (under k) suffixes)
 
--- the same of tries, at most `depth` nodes one below the other
-pub record TrieKeys (depth : ℕ) (k : Strings) (t : List ℕ) (ks : List Key) : Type 0 where
-  pub tries : Forest
-  pub regular : Regular 2 tries
-  pub high : height tries ≤ depth
-  pub bytes : t ≡ encode tries
-  pub is : ks ≡ pick has_slot (keys k tries)
-
--- the same of the body of a node: a leaf has kind 0
-pub record BodyKeys (kind depth : ℕ) (k : Strings) (t : List ℕ) (ks : List Key) : Type 0 where
-  pub leaf : kind ≡ 0 → SuffixKeys k t ks
-  pub inner : (kind ≡ 0 → ⊥) → TrieKeys depth k t ks
+-- y is known: what x says, and behind it the strings of a node
+pub record Deeper (x : Known) (value path k k' : List ℕ) (y : Known) : Type 0 where
+  pub value_is : y.value ≡ x.value + length value
+  pub path_is : y.path ≡ x.path + length path
+  pub joins : known_strings y k' ≡ join (known_strings x k) (value ∷ path ∷ [])
 
 -- A node is entered, if its strings have room behind the known bytes: then they are known too
-pub record Entered (v p : ℕ) (t : List ℕ) (path body : ℕ) (k k' : List ℕ) (r : Bool) : Type 0 where
-  pub is : r ≡ leb (v + (path - head_size)) value_size && leb (p + (body - path)) ended_limit
-  pub joins : r ≡ true → known (v + (path - head_size)) (p + (body - path)) k' ≡ join (known v p k) (part head_size path t ∷ part path body t ∷ [])
-  pub kept : known v p k' ≡ known v p k
-
--- what a walk asks for: the bytes from..to stand before `out`, behind which there is room for as many slots; the key buffer is a slot
-pub record Ready (from to v p out room n : ℕ) (s k : List ℕ) : Type 0 where
-  pub ordered : from ≤ to
-  pub before : to ≤ out
-  pub fits : out + room * slot_size ≤ length s
-  pub few : n + (to - from) ≤ length s
-  pub buffer : length k ≡ slot_size
-  pub value : v ≤ value_size
-  pub path : p ≤ ended_limit
+pub record Entered (x : Known) (value path k k' : List ℕ) (r : Option Known) : Type 0 where
+  pub is : MatchOption r (has_room x.value x.path value path ≡ false) (Deeper x value path k k')
+  pub kept : known_strings x k' ≡ known_strings x k

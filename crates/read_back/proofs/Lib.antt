@@ -1,5 +1,3 @@
 pub mod Writes
-pub mod Splits
-pub mod Turns
 pub mod Ways
 pub mod Whole

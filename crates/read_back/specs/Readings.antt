@@ -11,13 +11,7 @@ use Rattle.trie_theory.specs.Encode.{Regular, encode}
 use Rattle.trie_theory.specs.Walk.{walk}
 use Rattle.gather.specs.KeySlots.{has_slot, key_row}
 use Rattle.book.specs.Records.{walk_bytes}
-
--- the bytes of a node in a record, and the most for all nodes of a way
-abbrev pub node_size : ℕ
-node_size = 3
-
-abbrev pub way_size : ℕ
-way_size = node_size * node_limit
+pub use Rattle.gather.specs.Visits.{node_size, way_size}
 
 -- the record of the key whose slot is k, below n nodes that have the bytes `way`: the row, the number of nodes, their bytes, zeros
 unfoldable pub record_bytes : ℕ → List ℕ → List ℕ → List ℕ

@@ -9,12 +9,11 @@ use Rattle.trie_theory.specs.Forest.{Strings, Key}
 use Rattle.buffer.specs.Lists.{All, any, same}
 use Rattle.trie_theory.specs.Strings.{at}
 use Rattle.trie_theory.specs.Lookup.{among, same_key}
-use Rattle.trie_read.specs.Shape.{part, Fixed, key_of}
-use Rattle.trie_read.specs.Suffixes.{suffixes_bytes, tail_of}
-use Rattle.trie_read.specs.declared.suffixes.Tail.{Tail}
-use Rattle.trie_read.specs.declared.suffixes.Tail.TheVariants.{End, Bad, At}
+use Rattle.std.specs.Prelude.{Some, None}
+use Rattle.trie_read.specs.Shape.{Fixed, key_of}
+use Rattle.trie_read.specs.Suffixes.{suffixes_bytes, Tail, tail_of}
 use Rattle.trie_read.proofs.Node.{two}
-use Rattle.trie_read.proofs.Suffix.{Seen, tail_end, tail_good, tail_at}
+use Rattle.trie_read.proofs.Suffix.{Seen, tail_end, tail_at}
 
 module _ (v p r v' p' r' : List ℕ) where
   pub same_all : same eqb v v' ≡ true → same eqb p p' ≡ true → same_key (key_of v p r) (key_of v' p' r') ≡ same eqb r r'
@@ -51,30 +50,23 @@ among_none : (x : Key) → among x [] ≡ false
 unfolding among any
 among_none x = refl
 
--- the key that the places show
-pub seen_key : {b : List ℕ} {ts : List Key} {path next : ℕ} (v : Seen b ts path next) → key_of (part 22 path b) (part path next b) (part 2 22 b) ≡ v.t
-seen_key v = rw (v.places.value_is, v.places.path_is, v.places.reference_is) (sym (two_strings v.t v.own.0))
+-- the key that a tail shows
+pub seen_key : {ts : List Key} {x : Tail} (v : Seen ts x) → key_of x.value x.path x.reference ≡ v.t
+seen_key v = rw (v.value_is, v.path_is, v.reference_is) (sym (two_strings v.t v.own.0))
 
-module _ {x : Key} {b : List ℕ} {ts : List Key} {r : Tail} (l : Among x b ts)
-    (is : (us : List Key) → All Fixed us → b ≡ suffixes_bytes us → r ≡ tail_of us) where
-  told : r ≡ tail_of l.left
-  told = is l.left l.fixed l.bytes
+module _ {x : Key} {b : List ℕ} {ts : List Key} (l : Among x b ts) where
+  pub among_end : None ≡ tail_of l.left → false ≡ among x ts
+  among_end e = sym (among_none x) ∙ sym (ap (among x) (tail_end l.left e)) ∙ l.same
 
-  pub among_end : r ≡ End → false ≡ among x ts
-  among_end e = sym (among_none x) ∙ sym (ap (among x) (tail_end l.left (sym e ∙ told))) ∙ l.same
+  module _ (y : Tail) (e : Some y ≡ tail_of l.left) where
+    seen : Seen l.left y
+    seen = tail_at l.left y l.fixed e
 
-  pub among_bad : r ≡ Bad → false ≡ among x ts
-  among_bad e = absurd (tail_good l.left (sym e ∙ told))
-
-  module _ (path next : ℕ) (e : r ≡ At path next) where
-    seen : Seen b l.left path next
-    seen = tail_at b l.left path next l.fixed l.bytes (sym e ∙ told)
-
-    step : among x ts ≡ same_key x (key_of (part 22 path b) (part path next b) (part 2 22 b)) || among x seen.others
+    step : among x ts ≡ same_key x (key_of y.value y.path y.reference) || among x seen.others
     step = sym l.same ∙ ap (among x) seen.is ∙ among_cons x seen.t seen.others ∙ ap (λ (k : Key). same_key x k || among x seen.others) (sym (seen_key seen))
 
-    pub among_found : same_key x (key_of (part 22 path b) (part path next b) (part 2 22 b)) ≡ true → true ≡ among x ts
+    pub among_found : same_key x (key_of y.value y.path y.reference) ≡ true → true ≡ among x ts
     among_found s = sym (step ∙ rw s)
 
-    pub among_next : same_key x (key_of (part 22 path b) (part path next b) (part 2 22 b)) ≡ false → Among x (part next (length b) b) ts
-    among_next s = record { left = seen.others; fixed = seen.fixed; bytes = seen.places.rest_is; same = sym (step ∙ rw s) }
+    pub among_next : same_key x (key_of y.value y.path y.reference) ≡ false → Among x y.rest ts
+    among_next s = record { left = seen.others; fixed = seen.fixed; bytes = seen.rest_is; same = sym (step ∙ rw s) }

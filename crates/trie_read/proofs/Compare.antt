@@ -1,23 +1,21 @@
 -- Comparing strings byte by byte: what is left to compare after i equal bytes. Assumes nothing.
-use mathlib.Core.Path.{◌≡◌, refl}
+use mathlib.Core.Path.{◌≡◌, refl, ap}
 use mathlib.Core.Bool.{Bool, true, false, cond, ◌&&◌}
-use Prim.Native.Nat.{ℕ, zero, suc, ◌+◌, ◌≤◌, ◌<◌}
+use Prim.Native.Nat.{ℕ, suc, ◌+◌, ◌≤◌, ◌<◌}
 use mathlib.Core.List.{List, [], ◌∷◌}
 use native.Mathlib.Omega.{arith}
 use native.Mathlib.Numerals.{add-one}
-use lib.ListN.{length, get_or, drop, drop_of_length-le}
-use lib.Seq.{drop-cons, drop-length}
+use Rattle.std.specs.Prelude.{Some, None, slice_get}
+use lib.ListN.{length, get_or, take, drop, drop_of_length-le}
+use lib.Seq.{drop-cons}
 use lib.Dec.{eqb}
+use lib.Pointwise.{pointwise}
+use Rattle.buffer.specs.Lists.{same}
 use borrow.Author.Tests.{eq-eqb, ne_eqb}
 use Rattle.buffer.proofs.Tests.{and_right}
 use Rattle.trie_theory.specs.Strings.{begins, common, first}
-use Rattle.trie_theory.specs.Dimensions.{branching}
+use Rattle.trie_theory.specs.Dimensions.{root, below, branching}
 use Rattle.trie_theory.proofs.Strings.{first_at}
-use Rattle.trie_read.specs.Shape.{above_of}
-
-begins_cons : (a b : ℕ) (p s : List ℕ) → begins (a ∷ p) (b ∷ s) ≡ eqb a b && begins p s
-unfolding begins
-begins_cons a b p s = refl
 
 pub begins_short : (p s : List ℕ) → length s < length p → begins p s ≡ false
 unfolding begins
@@ -35,16 +33,19 @@ begins_length [] s e = omega arith
 begins_length (a ∷ p) [] e = absurd (let z : ◌≡◌ {A = Bool} false true = e in let y : ◌≡◌ {A = ℕ} 0 1 = cc in omega arith)
 begins_length (a ∷ p) (b ∷ s) e = let h = begins_length p s (and_right (eqb a b) (begins p s) e) in omega arith
 
-pub begins_all : (p s : List ℕ) (i : ℕ) → length p ≤ i → i ≤ length p → begins (drop i p) (drop i s) ≡ true
+-- what the library's tests of slices say
+pub pointwise_same : (x y : List ℕ) → pointwise eqb x y ≡ same eqb x y
+unfolding same
+pointwise_same [] [] = refl
+pointwise_same [] (b ∷ y) = refl
+pointwise_same (a ∷ x) [] = refl
+pointwise_same (a ∷ x) (b ∷ y) = ap (λ (t : Bool). eqb a b && t) (pointwise_same x y)
+
+pub pointwise_begins : (p s : List ℕ) → pointwise eqb p (take (length p) s) ≡ begins p s
 unfolding begins
-begins_all p s i h k = let e : i ≡ length p = omega arith in rw (e, drop-length p)
-
-module _ (p s : List ℕ) (i : ℕ) (inp : i < length p) (ins : i < length s) where
-  pub begins_on : get_or p i 0 ≡ get_or s i 0 → begins (drop i p) (drop i s) ≡ begins (drop (i + 1) p) (drop (i + 1) s)
-  begins_on e = rw (add-one, drop-cons p i 0 inp, drop-cons s i 0 ins, begins_cons, eq-eqb (get_or p i 0) (get_or s i 0) e)
-
-  pub begins_off : (get_or p i 0 ≡ get_or s i 0 → ⊥) → begins (drop i p) (drop i s) ≡ false
-  begins_off n = rw (drop-cons p i 0 inp, drop-cons s i 0 ins, begins_cons, ne_eqb (get_or p i 0) (get_or s i 0) n)
+pointwise_begins [] s = refl
+pointwise_begins (a ∷ p) [] = refl
+pointwise_begins (a ∷ p) (b ∷ s) = ap (λ (t : Bool). eqb a b && t) (pointwise_begins p s)
 
 -- ---- what two strings have in common, after i equal bytes
 
@@ -72,6 +73,16 @@ module _ (s t : List ℕ) (i : ℕ) (ins : i < length s) (int : i < length t) wh
   common_off n = rw (drop-cons s i 0 ins, drop-cons t i 0 int, common_cons, ne_eqb (get_or s i 0) (get_or t i 0) n)
 
 -- the first byte of a string
+pub first_got : (s : List ℕ) (b : ℕ) → Some b ≡ slice_get s 0 → b ≡ first 0 (s ∷ [])
+unfolding first
+first_got [] b e = absurd cc
+first_got (x ∷ s) b e = cc
+
+pub first_missing : (s : List ℕ) → None ≡ slice_get s 0 → 256 ≡ first 0 (s ∷ [])
+unfolding first
+first_missing [] e = refl
+first_missing (x ∷ s) e = absurd cc
+
 pub first_none : (s : List ℕ) → length s ≡ 0 → first 0 (s ∷ []) ≡ 256
 unfolding first
 first_none [] h = refl
@@ -85,18 +96,19 @@ first_some (b ∷ s) h = refl
 -- ---- the branching byte
 
 module _ (v p : List ℕ) where
-  pub branch_value : (above : ℕ) → above ≡ 1 → branching (above_of above) (v ∷ p ∷ []) ≡ first 0 (v ∷ [])
+  pub branch_value : branching (below 0) (v ∷ p ∷ []) ≡ first 0 (v ∷ [])
   unfolding branching
-  branch_value above e = rw e (first_at 0 (v ∷ p ∷ []))
+  branch_value = first_at 0 (v ∷ p ∷ [])
 
-  pub branch_path : (above : ℕ) → above ≡ 2 → branching (above_of above) (v ∷ p ∷ []) ≡ first 0 (p ∷ [])
+  pub branch_path : branching (below 1) (v ∷ p ∷ []) ≡ first 0 (p ∷ [])
   unfolding branching
-  branch_path above e = rw e (first_at 1 (v ∷ p ∷ []))
+  branch_path = first_at 1 (v ∷ p ∷ [])
 
-  -- at the root; and there are no other dimensions
-  pub branch_none : (above : ℕ) → (above ≡ 1 → ⊥) → (above ≡ 2 → ⊥) → branching (above_of above) (v ∷ p ∷ []) ≡ 256
+  -- there are no other dimensions
+  pub branch_other : (d : ℕ) → branching (below (suc (suc d))) (v ∷ p ∷ []) ≡ 256
   unfolding branching first
-  branch_none zero a b = refl
-  branch_none (suc zero) a b = absurd (a refl)
-  branch_none (suc (suc zero)) a b = absurd (b refl)
-  branch_none (suc (suc (suc d))) a b = refl
+  branch_other d = refl
+
+  pub branch_root : branching root (v ∷ p ∷ []) ≡ 256
+  unfolding branching
+  branch_root = refl

@@ -1,4 +1,5 @@
 pub mod Stretch
+pub mod KindBytes
 pub mod Node
 pub mod Compare
 pub mod Suffix

@@ -1,17 +1,19 @@
 -- The bytes of suffixes, taken apart: what the first of them says, and which stretch is which. Assumes nothing.
-use mathlib.Core.Path.{◌≡◌, refl}
+use mathlib.Core.Path.{◌≡◌, refl, ap, ◌∙◌}
 use Prim.Native.Nat.{ℕ, ◌+◌, ◌≤◌}
 use mathlib.Core.List.{List, [], ◌∷◌, ◌++◌, append_assoc, map}
 use native.Mathlib.Omega.{arith}
-use lib.ListN.{length, get_or, length-append}
+use lib.ListN.{length, get_or, take, length-append}
+use Rattle.std.specs.Prelude.{Option, Some, None, Result, Ok, Err}
+use Rattle.trie_read.specs.declared.head.Malformed.{Malformed}
+use Rattle.trie_read.specs.declared.suffixes.Suffix.{Suffix}
 use Rattle.trie_theory.specs.Forest.{Strings, Key}
 use Rattle.buffer.specs.Lists.{All, cons, flat}
 use Rattle.trie_theory.specs.Strings.{at}
 use Rattle.trie_theory.specs.Encode.{suffix_bytes}
-use Rattle.trie_read.proofs.Stretch.{part_at, part_end}
+use Rattle.trie_read.proofs.Stretch.{part_at, part_end, cut, cut_last}
 use Rattle.trie_read.specs.Shape.{part, Fixed}
-use Rattle.trie_read.specs.Suffixes.{suffixes_bytes, tail_of}
-use Rattle.trie_read.specs.declared.suffixes.Tail.TheVariants.{End, Bad, At}
+use Rattle.trie_read.specs.Suffixes.{suffixes_bytes, Tail, tail_of, tail_in, tail_told}
 
 -- the two lengths and the reference
 abbrev pub lead : Strings → List ℕ → List ℕ
@@ -63,64 +65,97 @@ view t rest h = rw (suffix_is t rest h) (lead_view t.strings t.reference rest h.
 
 -- ---- what the code reads
 
-tail_some : (t : Key) (ts : List Key) → tail_of (t ∷ ts) ≡ At (22 + length (at 0 t.strings)) (22 + length (at 0 t.strings) + length (at 1 t.strings))
-unfolding tail_of
-tail_some t ts = refl
+-- what the first suffix says
+abbrev pub tail_with : Key → List Key → Tail
+tail_with t ts = record { value = at 0 t.strings; path = at 1 t.strings; reference = t.reference; rest = suffixes_bytes ts }
 
-pub none_end : (ts : List Key) → length (suffixes_bytes ts) ≡ 0 → All Fixed ts → End ≡ tail_of ts
+tail_cons : (t : Key) (ts : List Key) → tail_of (t ∷ ts) ≡ Some (tail_with t ts)
+unfolding tail_of
+tail_cons t ts = refl
+
+pub none_end : (ts : List Key) → length (suffixes_bytes ts) ≡ 0 → All Fixed ts → None ≡ tail_of ts
 unfolding tail_of flat
 none_end [] e a = refl
 none_end (t ∷ ts) e (cons h a) = absurd (omega (arith, (view t (suffixes_bytes ts) h).long))
 
-pub record Some (b : List ℕ) (ts : List Key) : Type 0 where
+pub record Some_of (b : List ℕ) (ts : List Key) : Type 0 where
   pub t : Key
   pub others : List Key
   pub is : ts ≡ t ∷ others
   pub fixed : All Fixed others
   pub seen : SuffixView b t (suffixes_bytes others) (22 + length (at 0 t.strings)) (22 + length (at 0 t.strings) + length (at 1 t.strings))
 
-pub some : (b : List ℕ) (ts : List Key) → All Fixed ts → b ≡ suffixes_bytes ts → (length b ≡ 0 → ⊥) → Some b ts
+pub some : (b : List ℕ) (ts : List Key) → All Fixed ts → b ≡ suffixes_bytes ts → (length b ≡ 0 → ⊥) → Some_of b ts
 unfolding flat
 some b [] a e n = absurd (n (rw e))
 some b (t ∷ ts) (cons h a) e n = record { t = t; others = ts; is = refl; fixed = a; seen = rw e (view t (suffixes_bytes ts) h) }
 
 module _ (b : List ℕ) (ts : List Key) (a : All Fixed ts) (e : b ≡ suffixes_bytes ts) where
-  pub read_end : length b ≡ 0 → End ≡ tail_of ts
+  pub read_end : length b ≡ 0 → None ≡ tail_of ts
   read_end z = none_end ts (rw e at z) a
 
   pub read_long : (length b ≡ 0 → ⊥) → 22 + get_or b 0 0 + get_or b 1 0 ≤ length b
   read_long n = let w = some b ts a e n in omega (arith, w.seen.first, w.seen.second, w.seen.long)
 
-  pub read_at : (length b ≡ 0 → ⊥) → At (22 + get_or b 0 0) (22 + get_or b 0 0 + get_or b 1 0) ≡ tail_of ts
-  read_at n = told (some b ts a e n)
-    where
-      told : Some b ts → At (22 + get_or b 0 0) (22 + get_or b 0 0 + get_or b 1 0) ≡ tail_of ts
-      told w = rw (w.is, tail_some w.t w.others, w.seen.first, w.seen.second)
+  pub read_at : (length b ≡ 0 → ⊥) → (path next : ℕ) → path ≡ 22 + get_or b 0 0 → next ≡ path + get_or b 1 0
+      → Some (record { value = part 22 path b; path = part path next b; reference = part 2 22 b; rest = part next (length b) b }) ≡ tail_of ts
+  read_at n path next p x =
+      let w = some b ts a e n in
+      let y : path ≡ 22 + length (at 0 w.t.strings) = omega (arith, w.seen.first) in
+      let z : next ≡ 22 + length (at 0 w.t.strings) + length (at 1 w.t.strings) = omega (arith, w.seen.first, w.seen.second) in
+      rw (w.is, tail_cons w.t w.others, y, z, w.seen.value_is, w.seen.path_is, w.seen.reference_is, w.seen.rest_is) refl
+
+-- bytes are the lengths of a suffix's strings, and its parts
+pub suffix_parts_are : (b : List ℕ) (path next : ℕ) → 22 ≤ path → path ≤ next → next ≤ length b
+    → b ≡ take 2 b ++ (part 2 22 b ++ (part 22 path b ++ (part path next b ++ part next (length b) b)))
+suffix_parts_are b path next h k l =
+    cut 0 2 b (omega arith)
+    ∙ ap (λ (x : List ℕ). take 2 b ++ x) (cut 2 22 b (omega arith) ∙ ap (λ (x : List ℕ). part 2 22 b ++ x) (cut 22 path b h ∙ ap (λ (x : List ℕ). part 22 path b ++ x) (cut path next b k ∙ ap (λ (x : List ℕ). part path next b ++ x) (cut_last next b))))
 
 -- ---- suffixes taken apart: what every reader starts from
 
-pub tail_end : (ts : List Key) → End ≡ tail_of ts → ts ≡ []
+pub tail_end : (ts : List Key) → None ≡ tail_of ts → ts ≡ []
 unfolding tail_of
 tail_end [] e = refl
-tail_end (t ∷ ts) e = absurd (let z : ◌≡◌ {A = ℕ} 0 1 = cc in omega arith)
+tail_end (t ∷ ts) e = absurd cc
 
-pub tail_good : (ts : List Key) → Bad ≡ tail_of ts → ⊥
-unfolding tail_of
-tail_good [] e = let z : ◌≡◌ {A = ℕ} 0 1 = cc in omega arith
-tail_good (t ∷ ts) e = let z : ◌≡◌ {A = ℕ} 0 1 = cc in omega arith
-
-pub record Seen (b : List ℕ) (ts : List Key) (path next : ℕ) : Type 0 where
+-- the first suffix, seen from its tail x
+pub record Seen (ts : List Key) (x : Tail) : Type 0 where
   pub t : Key
   pub others : List Key
   pub is : ts ≡ t ∷ others
   pub own : Fixed t
   pub fixed : All Fixed others
-  pub places : SuffixView b t (suffixes_bytes others) path next
+  pub value_is : x.value ≡ at 0 t.strings
+  pub path_is : x.path ≡ at 1 t.strings
+  pub reference_is : x.reference ≡ t.reference
+  pub rest_is : x.rest ≡ suffixes_bytes others
 
-pub tail_at : (b : List ℕ) (ts : List Key) (path next : ℕ) → All Fixed ts → b ≡ suffixes_bytes ts → At path next ≡ tail_of ts → Seen b ts path next
-unfolding tail_of flat
-tail_at b [] path next a e h = absurd (let z : ◌≡◌ {A = ℕ} 0 1 = cc in omega arith)
-tail_at b (t ∷ ts) path next (cons w a) e h =
-    let p : path ≡ 22 + length (at 0 t.strings) = cc in
-    let n : next ≡ 22 + length (at 0 t.strings) + length (at 1 t.strings) = cc in
-    record { t = t; others = ts; is = refl; own = w; fixed = a; places = rw (p, n, e) (view t (suffixes_bytes ts) w) }
+pub tail_at : (ts : List Key) (x : Tail) → All Fixed ts → Some x ≡ tail_of ts → Seen ts x
+unfolding tail_of
+tail_at [] x a e = absurd cc
+tail_at (t ∷ ts) x (cons w a) e =
+    let q : x ≡ tail_with t ts = cc in
+    record {
+      t = t;
+      others = ts;
+      is = refl;
+      own = w;
+      fixed = a;
+      value_is = ap (λ (y : Tail). y.value) q;
+      path_is = ap (λ (y : Tail). y.path) q;
+      reference_is = ap (λ (y : Tail). y.reference) q;
+      rest_is = ap (λ (y : Tail). y.rest) q;
+    }
+
+-- ---- what was read, at each outcome
+
+module _ {r : Result (Option Suffix) Malformed} (ts : List Key) (e : tail_told r ≡ Ok (tail_of ts)) where
+  pub tail_none : r ≡ Ok None → None ≡ tail_of ts
+  tail_none q = let z : Ok None ≡ Ok (tail_of ts) = rw q at e in cc
+
+  pub tail_some : (x : Suffix) → r ≡ Ok (Some x) → Some (tail_in x) ≡ tail_of ts
+  tail_some x q = let z : Ok (Some (tail_in x)) ≡ Ok (tail_of ts) = rw q at e in cc
+
+  pub tail_err : (m : Malformed) → r ≡ Err m → ⊥
+  tail_err m q = let z : Err m ≡ Ok (tail_of ts) = rw q at e in cc

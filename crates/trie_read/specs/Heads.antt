@@ -1,22 +1,19 @@
 -- What the head of the first node says. Assumes nothing: these are definitions.
-use Rattle.std.specs.Prelude.{ℕ, suc, ◌+◌, ◌≤◌, ◌<◌, ◌≡◌, List, [], ◌∷◌, ◌++◌, map, length}
+use Rattle.std.specs.Prelude.{ℕ, suc, ◌+◌, ◌<◌, ◌≡◌, List, [], ◌∷◌, ◌++◌, map, length, Option, Some, None, Result, Ok, Err}
 use Rattle.buffer.specs.Numbers.{bytes_of}
 use Rattle.trie_theory.specs.Forest.{Strings, Forest, none, leaf, inner}
 use Rattle.buffer.specs.Lists.{flat}
 use Rattle.trie_theory.specs.Strings.{at}
 use Rattle.trie_theory.specs.Encode.{encode, suffix_bytes}
 use Rattle.trie_read.specs.Sizes.{head_size}
-use Rattle.trie_read.specs.declared.head.Head.{Head}
-use Rattle.trie_read.specs.declared.head.Head.TheVariants.{End, Bad, Node}
+use Rattle.trie_read.specs.Kinds.{kind_of_byte}
+use Rattle.trie_read.specs.declared.kind.Kind.{Kind}
+use Rattle.trie_read.specs.declared.head.Node.{Node}
+use Rattle.trie_read.specs.declared.head.Malformed.{Malformed}
 
 -- the bytes of a node of a kind with the strings s before its body of n bytes
 unfoldable pub front : ℕ → Strings → ℕ → List ℕ
 front kind s n = kind ∷ length (at 0 s) ∷ length (at 1 s) ∷ (bytes_of 4 n ++ (at 0 s ++ at 1 s))
-
--- the places of a node of a kind with the strings s and a body
-abbrev pub node_head : ℕ → Strings → List ℕ → Head
-node_head kind s body =
-    Node kind (head_size + length (at 0 s)) (head_size + length (at 0 s) + length (at 1 s)) (head_size + length (at 0 s) + length (at 1 s) + length body)
 
 -- the body of the first node
 unfoldable pub body_of : Forest → List ℕ
@@ -24,14 +21,45 @@ body_of none = []
 body_of (leaf s ts more) = flat (map suffix_bytes ts)
 body_of (inner d s children more) = encode children
 
-unfoldable pub head_of : Forest → Head
-unfolding body_of
-head_of none = End
-head_of (leaf s ts more) = node_head 0 s (body_of (leaf s ts more))
-head_of (inner d s children more) = node_head (suc d) s (body_of (inner d s children more))
+-- what a node says: its kind, its strings, the bytes of its body and of its later siblings
+pub record Head : Type 0 where
+  pub kind : Kind
+  pub value : List ℕ
+  pub path : List ℕ
+  pub body : List ℕ
+  pub rest : List ℕ
 
--- the places of a head lie in n bytes, in their sequence, and kind and lengths are bytes
-abbrev pub Inside : Head → ℕ → Type 0
-Inside End n = n ≡ 0
-Inside Bad n = Unit {0}
-Inside (Node kind path body next) n = (head_size ≤ path) × (path ≤ body) × (body ≤ next) × (next ≤ n) × (kind < 256) × (path < head_size + 256) × (body < path + 256)
+-- that of a node with this first byte, and the strings s
+abbrev pub node_head : ℕ → Strings → List ℕ → List ℕ → Head
+node_head byte s body rest = record { kind = kind_of_byte byte; value = at 0 s; path = at 1 s; body = body; rest = rest }
+
+-- the head of the first of tries; there is none where they are none
+unfoldable pub head_of : Forest → Option Head
+unfolding body_of
+head_of none = None
+head_of (leaf s ts more) = Some (node_head 0 s (body_of (leaf s ts more)) (encode more))
+head_of (inner d s children more) = Some (node_head (suc d) s (body_of (inner d s children more)) (encode more))
+
+abbrev pub head_in : Node → Head
+head_in n = record { kind = n.kind; value = n.value.now; path = n.path.now; body = n.body.now; rest = n.rest.now }
+
+-- what was read, without the places where it stands
+abbrev pub head_told : Result (Option Node) Malformed → Result (Option Head) Malformed
+head_told (Ok None) = Ok None
+head_told (Ok (Some n)) = Ok (Some (head_in n))
+head_told (Err e) = Err e
+
+-- the node stands in the bytes t, its parts one behind the other, behind a head; the lengths of its strings are bytes
+pub record Stands (t : List ℕ) (n : Node) : Type 0 where
+  pub lead : List ℕ
+  pub is : t ≡ lead ++ (n.value.now ++ (n.path.now ++ (n.body.now ++ n.rest.now)))
+  pub lead_long : length lead ≡ head_size
+  pub long : length t ≡ head_size + length n.value.now + length n.path.now + length n.body.now + length n.rest.now
+  pub value_short : length n.value.now < 256
+  pub path_short : length n.path.now < 256
+
+-- a node that is read stands in the bytes; there is none only where they are none
+abbrev pub InBytes : List ℕ → Result (Option Node) Malformed → Type 0
+InBytes t (Ok None) = length t ≡ 0
+InBytes t (Ok (Some n)) = Stands t n
+InBytes t (Err e) = Unit {0}

@@ -1,4 +1,5 @@
 pub mod Sizes
+pub mod Kinds
 pub mod Shape
 pub mod Heads
 pub mod Suffixes

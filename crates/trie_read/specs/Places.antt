@@ -1,19 +1,21 @@
 -- Where a key belongs among tries side by side, and what its addition then makes of their bytes. Assumes nothing: these are definitions.
-use Rattle.std.specs.Prelude.{ℕ, ◌+◌, ◌≤◌, ◌<◌, ◌≡◌, true, List, [], ◌++◌, length}
+use Rattle.std.specs.Prelude.{ℕ, ◌+◌, ◌≤◌, ◌<◌, ◌≡◌, true, List, [], ◌++◌, length, drop, Option, Some, Result, Ok, Err}
 use Rattle.trie_theory.specs.Forest.{Strings, Key, Forest, none, leaf, inner}
 use Rattle.trie_theory.specs.SmallTrie.{meets, new_leaf, added}
 use Rattle.trie_theory.specs.Sound.{Ascending}
 use Rattle.trie_theory.specs.Size.{height}
 use Rattle.trie_theory.specs.Encode.{Regular, encode}
 use Rattle.trie_read.specs.Sizes.{head_size}
-use Rattle.trie_read.specs.Shape.{above_of}
-use Rattle.trie_read.specs.Heads.{head_of}
-use Rattle.trie_read.specs.declared.head.Head.TheVariants as Head
+use Rattle.trie_read.specs.Shape.{above_of, part}
+use Rattle.trie_read.specs.Heads.{Head, head_of}
+use Rattle.trie_read.specs.declared.kind.Dimension.{Dimension}
+use Rattle.trie_read.specs.declared.kind.Kind.{Kind}
+use Rattle.trie_read.specs.declared.head.Malformed.{Malformed}
 use Rattle.trie_read.specs.declared.place.Place.{Place}
-use Rattle.trie_read.specs.declared.place.Place.TheVariants.{Node, Gap, Bad}
+use Rattle.trie_read.specs.declared.place.Place.TheVariants.{Node, Gap}
 
 -- the tries f, seen from the bytes t: front is passed, `over` are the tries from there on, and an addition changes only those
-pub record Passed (t : List ℕ) (above : ℕ) (k : Strings) (f : Forest) (at : ℕ) (changed : Forest → Key → Forest) : Type 0 where
+pub record Passed (t : List ℕ) (above : Option Dimension) (k : Strings) (f : Forest) (at : ℕ) (changed : Forest → Key → Forest) : Type 0 where
   pub front : List ℕ
   pub over : Forest
   pub bytes : t ≡ front ++ encode over
@@ -29,19 +31,24 @@ top none = []
 top (leaf s ts more) = s
 top (inner d s children more) = s
 
+-- the head of the node from `at` on that has these places in the bytes t
+abbrev pub head_between : List ℕ → ℕ → Kind → ℕ → ℕ → ℕ → Head
+head_between t at kind path body next =
+    record { kind = kind; value = part (at + head_size) path t; path = part path body t; body = part body next t; rest = drop next t }
+
 -- the key belongs to the first of the tries from `at` on, whose head has these places
-pub record Here (t : List ℕ) (above : ℕ) (k : Strings) (f : Forest) (at kind path body next : ℕ) : Type 0 where
+pub record Here (t : List ℕ) (above : Option Dimension) (k : Strings) (f : Forest) (at : ℕ) (kind : Kind) (path body next : ℕ) : Type 0 where
   pub passed : Passed t above k f at (added (above_of above))
-  pub told : (a b c : ℕ) → path ≡ at + a → body ≡ at + b → next ≡ at + c → Head.Node kind a b c ≡ head_of passed.over
+  pub told : Some (head_between t at kind path body next) ≡ head_of passed.over
   pub leads : meets (above_of above) (top passed.over) k ≡ true
 
-abbrev pub Found : List ℕ → ℕ → Strings → Forest → Place → Type 0
-Found t above k f (Node at kind path body next) = Here t above k f at kind path body next
-Found t above k f (Gap at) = Passed t above k f at (λ g x. new_leaf x g)
-Found t above k f Bad = ⊥
+abbrev pub Found : List ℕ → Option Dimension → Strings → Forest → Result Place Malformed → Type 0
+Found t above k f (Ok (Node at kind path body next)) = Here t above k f at kind path body next
+Found t above k f (Ok (Gap at)) = Passed t above k f at (λ g x. new_leaf x g)
+Found t above k f (Err e) = ⊥
 
--- the places lie in n bytes, in their sequence, and kind and lengths are bytes
-abbrev pub Fits : Place → ℕ → Type 0
-Fits (Node at kind path body next) n = (at + head_size ≤ path) × (path ≤ body) × (body ≤ next) × (next ≤ n) × (kind < 256) × (path < at + head_size + 256) × (body < path + 256)
-Fits (Gap at) n = at ≤ n
-Fits Bad n = Unit {0}
+-- the places lie in n bytes, in their sequence, and lengths of strings are bytes
+abbrev pub Fits : Result Place Malformed → ℕ → Type 0
+Fits (Ok (Node at kind path body next)) n = (at + head_size ≤ path) × (path ≤ body) × (body ≤ next) × (next ≤ n) × (path < at + head_size + 256) × (body < path + 256)
+Fits (Ok (Gap at)) n = at ≤ n
+Fits (Err e) n = Unit {0}

@@ -4,6 +4,7 @@
 #![tactic(auto)]
 
 pub mod head;
+pub mod kind;
 pub mod lookup;
 pub mod place;
 pub mod sizes;

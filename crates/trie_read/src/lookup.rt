@@ -9,13 +9,19 @@ ghost use Rattle.trie_theory.specs.Lookup.{member};
 ghost use Rattle.trie_theory.specs.Encode.{Regular, encode};
 ghost use Rattle.trie_read.specs.Shape.{key_of, above_of};
 
-use crate::head::{Head, read_head};
-use crate::sizes::HEAD_SIZE;
-use crate::strings::{begins, branch_byte};
+use crate::head::first_node;
+use crate::kind::{Dimension, Kind};
+use crate::strings::branch_byte;
 use crate::suffixes::has_suffix;
 
-// Does the key have the node's branching byte? `above` is the kind of the node above, 0 at the root.
-pub fn same_branch(above: usize, nv: &[u8], np: &[u8], value: &[u8], path: &[u8]) -> bool
+// Does the key have the node's branching byte? `above` is how the node above branches, None at the root.
+pub fn same_branch(
+    above: Option<Dimension>,
+    nv: &[u8],
+    np: &[u8],
+    value: &[u8],
+    path: &[u8],
+) -> bool
     ensures { result ≡ meets (above_of above) (nv.now ∷ np.now ∷ []) (value.now ∷ path.now ∷ []) }
 {
     branch_byte(above, nv, np) == branch_byte(above, value, path)
@@ -25,10 +31,7 @@ pub fn same_branch(above: usize, nv: &[u8], np: &[u8], value: &[u8], path: &[u8]
 pub fn agrees(nv: &[u8], np: &[u8], value: &[u8], path: &[u8]) -> bool
     ensures { result ≡ all_begin (nv.now ∷ np.now ∷ []) (value.now ∷ path.now ∷ []) }
 {
-    if begins(nv, value) {
-        return begins(np, path);
-    }
-    false
+    value.starts_with(nv) && path.starts_with(np)
 }
 
 // Does the entry stand in the tries of these bytes? On bytes that are no trie's it returns all the same.
@@ -38,38 +41,22 @@ pub fn contains(tries: &[u8], value: &[u8], path: &[u8], reference: &[u8]) -> bo
     let mut t = tries;
     let mut v = value;
     let mut p = path;
-    let mut above: usize = 0;
-    loop {
-        match read_head(t) {
-            Head::Node {
-                kind,
-                path: at,
-                body,
-                next,
-            } => {
-                if same_branch(above, &t[HEAD_SIZE..at], &t[at..body], v, p) {
-                    if !agrees(&t[HEAD_SIZE..at], &t[at..body], v, p) {
-                        return false;
-                    }
-                    let a = at - HEAD_SIZE;
-                    let b = body - at;
-                    v = &v[a..];
-                    p = &p[b..];
-                    if kind == 0 {
-                        return has_suffix(&t[body..next], v, p, reference);
-                    }
-                    above = kind;
-                    t = &t[body..next];
-                } else {
-                    t = &t[next..];
-                }
-            }
-            Head::End => {
-                return false;
-            }
-            Head::Bad => {
-                return false;
-            }
+    let mut above = None;
+    while let Some(node) = first_node(t) {
+        if !same_branch(above, node.value, node.path, v, p) {
+            t = node.rest;
+            continue;
         }
+        if !agrees(node.value, node.path, v, p) {
+            return false;
+        }
+        v = &v[node.value.len()..];
+        p = &p[node.path.len()..];
+        match node.kind {
+            Kind::Leaf => return has_suffix(node.body, v, p, reference),
+            Kind::Inner(dimension) => above = Some(dimension),
+        }
+        t = node.body;
     }
+    false
 }

@@ -6,62 +6,55 @@ ghost use Rattle.trie_theory.specs.Encode.{Regular, encode};
 ghost use Rattle.trie_read.specs.Shape.{above_of};
 ghost use Rattle.trie_read.specs.Places.{Found, Fits};
 
-use crate::head::{Head, read_head};
+use crate::head::{Malformed, read_head};
+use crate::kind::{Dimension, Kind};
 use crate::sizes::HEAD_SIZE;
 use crate::strings::branch_byte;
 
-// Places in the bytes of the tries: `Node` as Head::Node has them, from the beginning of all; `Gap`: before what stands there.
-#[derive(Clone, Copy)]
+// Places in the bytes of the tries, which an addition writes: a node begins at `at`, its value string stands in at + HEAD_SIZE..path, its path string in
+// path..body, its body in body..next; a gap is before what stands there.
+#[derive(Clone, Copy, Debug)]
 pub enum Place {
     Node {
         at: usize,
-        kind: usize,
+        kind: Kind,
         path: usize,
         body: usize,
         next: usize,
     },
     Gap(usize),
-    Bad,
 }
 
 // Finds it by one pass over the siblings, which stand ascending by their branching bytes.
-pub fn find(tries: &[u8], above: usize, value: &[u8], path: &[u8]) -> Place
+pub fn find(
+    tries: &[u8],
+    above: Option<Dimension>,
+    value: &[u8],
+    path: &[u8],
+) -> Result<Place, Malformed>
     ensures fits { Fits result (length tries.now) }
     ensures found { (f : Forest) → Regular 2 f → Ascending (above_of above) f → tries.now ≡ encode f → Found tries.now above (value.now ∷ path.now ∷ []) f result }
 {
     let byte = branch_byte(above, value, path);
-    let mut at: usize = 0;
     let mut t = tries;
-    loop {
-        match read_head(t) {
-            Head::Node {
-                kind,
+    while let Some(node) = read_head(t)? {
+        let at = tries.len() - t.len();
+        let own = branch_byte(above, node.value, node.path);
+        if own == byte {
+            let start = at + HEAD_SIZE + node.value.len();
+            let body = start + node.path.len();
+            return Ok(Place::Node {
+                at,
+                kind: node.kind,
                 path: start,
                 body,
-                next,
-            } => {
-                let own = branch_byte(above, &t[HEAD_SIZE..start], &t[start..body]);
-                if own == byte {
-                    return Place::Node {
-                        at,
-                        kind,
-                        path: at + start,
-                        body: at + body,
-                        next: at + next,
-                    };
-                }
-                if byte < own {
-                    return Place::Gap(at);
-                }
-                at += next;
-                t = &t[next..];
-            }
-            Head::End => {
-                return Place::Gap(at);
-            }
-            Head::Bad => {
-                return Place::Bad;
-            }
+                next: body + node.body.len(),
+            });
         }
+        if byte < own {
+            return Ok(Place::Gap(at));
+        }
+        t = node.rest;
     }
+    Ok(Place::Gap(tries.len()))
 }

@@ -1,25 +1,13 @@
-// Comparing strings of bytes: each function stops at the first difference.
+// Comparing strings of bytes.
 ghost use Rattle.std.specs.Prelude.{◌≡◌, ◌≤◌, length, [], ◌∷◌};
-ghost use Rattle.trie_theory.specs.Strings.{begins, common, first};
+ghost use Rattle.trie_theory.specs.Strings.{common, first};
 ghost use Rattle.trie_theory.specs.Dimensions.{branching};
 ghost use Rattle.trie_read.specs.Shape.{above_of};
 
-// Does `s` begin with `p`?
-pub fn begins(p: &[u8], s: &[u8]) -> bool
-    ensures { result ≡ begins p.now s.now }
-{
-    if s.len() < p.len() {
-        return false;
-    }
-    let mut i: usize = 0;
-    while i < p.len() {
-        if p[i] != s[i] {
-            return false;
-        }
-        i += 1;
-    }
-    true
-}
+use crate::kind::Dimension;
+
+// Stands for the byte of a string without bytes. It is above all bytes, since such a string comes last; an Option's None would come first.
+pub const NO_BYTE: u16 = 256;
 
 // How many bytes both begin with.
 pub fn common_length(a: &[u8], b: &[u8]) -> usize
@@ -38,25 +26,24 @@ pub fn common_length(a: &[u8], b: &[u8]) -> usize
     i
 }
 
-// The first byte, or 256 where there is none.
-pub fn first_byte(s: &[u8]) -> usize
+// The first byte, or NO_BYTE.
+pub fn first_byte(s: &[u8]) -> u16
     ensures { result ≡ first 0 (s.now ∷ []) }
 {
-    if s.len() == 0 {
-        return 256;
+    match s.first() {
+        Some(byte) => u16::from(*byte),
+        None => NO_BYTE,
     }
-    crate::head::wide(s[0])
 }
 
-// The byte by which strings go below a node of the kind `above`; 256 at the root, or where there is none.
-pub fn branch_byte(above: usize, value: &[u8], path: &[u8]) -> usize
+// The byte by which strings go below a node that branches in a dimension; NO_BYTE at the root, or where there is none.
+pub fn branch_byte(above: Option<Dimension>, value: &[u8], path: &[u8]) -> u16
     ensures { result ≡ branching (above_of above) (value.now ∷ path.now ∷ []) }
 {
-    if above == 1 {
-        return first_byte(value);
+    match above {
+        Some(Dimension::Value) => first_byte(value),
+        Some(Dimension::Path) => first_byte(path),
+        Some(Dimension::Other(_)) => NO_BYTE,
+        None => NO_BYTE,
     }
-    if above == 2 {
-        return first_byte(path);
-    }
-    256
 }

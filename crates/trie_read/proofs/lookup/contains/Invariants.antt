@@ -7,8 +7,8 @@ use Rattle.trie_read.specs.Shape.{key_of}
 use Rattle.trie_read.proofs.Walking.{Walk}
 use Rattle.trie_read.proofs.lookup.contains.Given as goal
 
-abbrev pub invariant-loop-kind : goal.invariant-loop-kind
-invariant-loop-kind l = (f : Forest) → Regular 2 f → l.tries ≡ encode f → Walk l.t l.v l.p l.reference l.above f (key_of l.value l.path l.reference)
+abbrev pub invariant-loop-node : goal.invariant-loop-node
+invariant-loop-node l = (f : Forest) → Regular 2 f → l.tries ≡ encode f → Walk l.t l.v l.p l.reference l.above f (key_of l.value l.path l.reference)
 
-abbrev pub decreases-loop-kind : goal.decreases-loop-kind
-decreases-loop-kind l = length l.t
+abbrev pub decreases-loop-node : goal.decreases-loop-node
+decreases-loop-node l = length l.t

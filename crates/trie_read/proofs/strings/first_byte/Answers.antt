@@ -1,10 +1,10 @@
 -- The first byte of a string, or 256.
-use mathlib.Core.Path.{sym, ◌∙◌}
-use Rattle.trie_read.proofs.Compare.{first_none, first_some}
+use mathlib.Core.Path.{◌∙◌}
+use Rattle.trie_read.proofs.Compare.{first_got, first_missing}
 use Rattle.trie_read.proofs.strings.first_byte.Goals as goal
 
-pub returns-then-s-eq0 : goal.returns-then-s-eq0
-returns-then-s-eq0 c = sym (first_none _ c.if-s-eq0.true)
+pub returns-in-Some : goal.returns-in-Some
+returns-in-Some c = c.from.ensures ∙ first_got _ _ (rw c.in-Some.is at c.first.ensures.value)
 
-pub returns : goal.returns
-returns c = c.wide.ensures.0 ∙ sym (first_some _ c.if-s-eq0.false)
+pub returns-in-None : goal.returns-in-None
+returns-in-None c = first_missing _ (rw c.in-None.is at c.first.ensures.value)

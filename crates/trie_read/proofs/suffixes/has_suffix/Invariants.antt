@@ -9,8 +9,8 @@ use Rattle.trie_read.specs.Suffixes.{suffixes_bytes}
 use Rattle.trie_read.proofs.Among.{Among}
 use Rattle.trie_read.proofs.suffixes.has_suffix.Given as goal
 
-abbrev pub invariant-loop-at : goal.invariant-loop-at
-invariant-loop-at l = (ts : List Key) → All Fixed ts → l.body ≡ suffixes_bytes ts → Among (key_of l.value l.path l.reference) l.b ts
+abbrev pub invariant-loop-suffix : goal.invariant-loop-suffix
+invariant-loop-suffix l = (ts : List Key) → All Fixed ts → l.body ≡ suffixes_bytes ts → Among (key_of l.value l.path l.reference) l.b ts
 
-abbrev pub decreases-loop-at : goal.decreases-loop-at
-decreases-loop-at l = length l.b
+abbrev pub decreases-loop-suffix : goal.decreases-loop-suffix
+decreases-loop-suffix l = length l.b
