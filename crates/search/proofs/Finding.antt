@@ -200,32 +200,30 @@ module _ (x : Key) (xs : List Key) (r : Rising (x ∷ xs)) where
   unfolding Rising
   rising_above to h = cons h (all_imp (λ u l. omega arith) r.0)
 
+-- what is read of suffixes, is the first
+seen_in : (r : Option Suffix) (x : Suffix) (us : List Key) → All Fixed us → option_map tail_in r ≡ tail_of us → r ≡ Some x → Seen us (tail_in x)
+seen_in r x us a e z = tail_at us (tail_in x) a (rw z at e)
+
 module _ {q : Query} {k : Strings} {t : List ℕ} {r : Option Suffix} (is : (us : List Key) → All Fixed us → t ≡ suffixes_bytes us → option_map tail_in r ≡ tail_of us) where
   pub suffixes_end : r ≡ None → (ks : List Key) (e : ℕ) → SuffixesFound q k t ks e → (ks ≡ []) × (e ≡ 0)
   suffixes_end z ks e s = (s.is ∙ none_taken q k s.suffixes (tail_end s.suffixes (rw z at (is s.suffixes s.fixed s.bytes))), s.entered)
 
   module _ (x : Suffix) (z : r ≡ Some x) where
-    seen_in : (us : List Key) → All Fixed us → t ≡ suffixes_bytes us → Seen us (tail_in x)
-    seen_in us a b = tail_at us (tail_in x) a (rw z at (is us a b))
-
     -- the first lies above the range, and so do all
     pub suffixes_above : {n from to : ℕ} → Spans q (at 0 k) n from to → length (at 0 k) + n ≡ value_size → to < number x.value.now
         → (ks : List Key) (e : ℕ) → SuffixesFound q k t ks e → (ks ≡ []) × (e ≡ 0)
     suffixes_above {to = to} spans whole h ks e s =
-        let v = seen_in s.suffixes s.fixed s.bytes in
+        let v = seen_in r x s.suffixes s.fixed (is s.suffixes s.fixed s.bytes) z in
         let above = rising_above v.t v.others (subst Rising v.is s.rises) to (rw v.value_is at h) in
         (s.is ∙ ap (λ (us : List Key). pick (takes q) (map (under k) us)) v.is ∙ none_above q k spans whole above, s.entered)
 
-    abbrev own : Key
-    own = suffix_key k x.value.now x.path.now x.reference.now
-
-    pub suffixes_split : (ks : List Key) (e : ℕ) → SuffixesFound q k t ks e → Parts (OneKey q own) (SuffixesFound q k x.rest.now) ks e
+    pub suffixes_split : (ks : List Key) (e : ℕ) → SuffixesFound q k t ks e → Parts (OneKey q (suffix_key k x.value.now x.path.now x.reference.now)) (SuffixesFound q k x.rest.now) ks e
     suffixes_split ks e s =
-        let v = seen_in s.suffixes s.fixed s.bytes in
+        let v = seen_in r x s.suffixes s.fixed (is s.suffixes s.fixed s.bytes) z in
         let rises : Rising (v.t ∷ v.others) = subst Rising v.is s.rises in
         let paths : All OfPath (under k v.t ∷ map (under k) v.others) = subst (λ (us : List Key). All OfPath (map (under k) us)) v.is s.paths in
         record {
-          first = pick (takes q) (own ∷ []);
+          first = pick (takes q) (suffix_key k x.value.now x.path.now x.reference.now ∷ []);
           second = pick (takes q) (map (under k) v.others);
           before = 0;
           behind = 0;
