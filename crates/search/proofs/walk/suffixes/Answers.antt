@@ -44,9 +44,6 @@ returns-then-is_above-clause-searched c =
     (suffixes_above c.first_suffix.ensures.value suffix c.in-Some.is (known_span x.value x.path a.key.now (c.span_behind-rest.ensures a.q.now.pattern.now)) whole
     (ltb-true to n (and_right (eqb (x.value + length suffix.value.now) value_size) (ltb to n) told)))
 
-pub slice_bounds-put-end-then-take_key : goal.slice_bounds-put-end-then-take_key
-slice_bounds-put-end-then-take_key c = sym (row_long c.take_key.new.key (omega arith))
-
 pub put-requires : goal.put-requires
 put-requires c = rw (row_long c.take_key.new.key (omega arith)) (omega (arith, c.requires.fits))
 
@@ -70,7 +67,7 @@ loop-suffix-preserved c =
         omega arith,
         rw y.answer-is (y.put.auto.answer ∙ l.invariant.2),
         rw (y.answer-is, y.m-is)
-            (suffixes_put l.invariant.3 is _ e taken _ (omega (arith, c.requires.fits)) y.if-take_key.true (rw (row_long _ (omega arith)) at y.put.ensures)),
+            (suffixes_put l.invariant.3 is _ e taken _ (omega (arith, c.requires.fits)) y.if-take_key.true (rw (row_long c.take_key.new.key (omega arith)) at y.put.ensures)),
       )
       | else-take_key y ↦ (
         omega (arith, c.in-Some.ensures.within),
