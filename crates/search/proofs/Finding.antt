@@ -6,6 +6,8 @@ use mathlib.Core.List.{List, [], ◌∷◌, ◌++◌, append_assoc, append-nil, 
 use native.Mathlib.Omega.{arith}
 use lib.ListN.{length, take, length-append}
 use lib.Dec.{ltb}
+use Rattle.std.specs.Prelude.{Option, Some, None}
+use Rattle.std.specs.Option.{option_map}
 use Rattle.buffer.specs.Lists.{All, nil, cons, pick}
 use Rattle.buffer.specs.Numbers.{number}
 use Rattle.buffer.specs.Splice.{region, splice}
@@ -19,13 +21,13 @@ use Rattle.trie_theory.specs.Strings.{at}
 use Rattle.trie_theory.specs.Sound.{Rising}
 use Rattle.trie_theory.proofs.Strings.{at_join}
 use Rattle.entries.specs.Query.{Query, value_reach, is_match, wants}
-use Rattle.trie_read.specs.Shape.{part, Fixed}
-use Rattle.trie_read.specs.Suffixes.{suffixes_bytes, tail_of}
-use Rattle.trie_read.specs.declared.suffixes.Tail.{Tail}
-use Rattle.trie_read.specs.declared.suffixes.Tail.TheVariants.{End, Bad, At}
-use Rattle.trie_read.proofs.Suffix.{tail_end, tail_good, tail_at}
+use Rattle.trie_read.specs.Shape.{Fixed}
+use Rattle.trie_read.specs.Suffixes.{suffixes_bytes, tail_of, tail_in}
+use Rattle.trie_read.specs.declared.suffixes.Suffix.{Suffix}
+use Rattle.trie_read.proofs.Suffix.{Seen, tail_end, tail_at}
 use Rattle.gather.specs.KeySlots.{has_slot, key_slot, known, suffix_key}
-use Rattle.gather.specs.Walks.{Put}
+use Rattle.gather.specs.Walks.{Put, known_strings}
+use Rattle.gather.specs.declared.known.Known.{Known}
 use Rattle.gather.proofs.Filling.{slotted}
 pub use Rattle.gather.proofs.Filling.{length_row}
 use Rattle.gather.proofs.Putting.{put_none, put_then, put_one}
@@ -142,9 +144,10 @@ OneKey q x ks e = OfPath x × (ks ≡ pick (takes q) (x ∷ [])) × (e ≡ 0)
 
 -- its row is written, if there is room
 searched_one : {v p room n c : ℕ} {k k' : List ℕ} (q : Query) (x : Key) (s s' : List ℕ) → has_slot x ≡ true → (OfPath x → takes q x ≡ true) → room * row_size ≤ length s
-    → s' ≡ cond (ltb n room) (splice s (0 + n * row_size) (key_row x)) s → known v p k' ≡ known v p k → Searched (OneKey q x) v p room n c s k s' k' (n + 1) c
+    → s' ≡ cond (ltb n room) (splice s (n * row_size) (key_row x)) s → known v p k' ≡ known v p k → Searched (OneKey q x) v p room n c s k s' k' (n + 1) c
 searched_one {room = room} {n = n} q x s s' slot t fits is kept =
-    let one = put_one key_row row_size length_row 0 room n s s' x slot (omega arith) is kept in
+    let z : 0 + n * row_size ≡ n * row_size = omega arith in
+    let one = put_one key_row row_size length_row 0 room n s s' x slot (omega arith) (rw z is) kept in
     record {
       rows = record {
         put = one.put;
@@ -197,62 +200,67 @@ module _ (x : Key) (xs : List Key) (r : Rising (x ∷ xs)) where
   unfolding Rising
   rising_above to h = cons h (all_imp (λ u l. omega arith) r.0)
 
-module _ {q : Query} {k : Strings} {t : List ℕ} {r : Tail} (is : (us : List Key) → All Fixed us → t ≡ suffixes_bytes us → r ≡ tail_of us) where
-  pub suffixes_end : r ≡ End → (ks : List Key) (e : ℕ) → SuffixesFound q k t ks e → (ks ≡ []) × (e ≡ 0)
-  suffixes_end z ks e s = (s.is ∙ none_taken q k s.suffixes (tail_end s.suffixes (sym z ∙ is s.suffixes s.fixed s.bytes)), s.entered)
+-- what is read of suffixes, is the first
+seen_in : (r : Option Suffix) (x : Suffix) (us : List Key) → All Fixed us → option_map tail_in r ≡ tail_of us → r ≡ Some x → Seen us (tail_in x)
+seen_in r x us a e z = tail_at us (tail_in x) a (rw z at e)
 
-  pub suffixes_bad : r ≡ Bad → (ks : List Key) (e : ℕ) → SuffixesFound q k t ks e → (ks ≡ []) × (e ≡ 0)
-  suffixes_bad z ks e s = absurd (tail_good s.suffixes (sym z ∙ is s.suffixes s.fixed s.bytes))
+module _ {q : Query} {k : Strings} {t : List ℕ} {r : Option Suffix} (is : (us : List Key) → All Fixed us → t ≡ suffixes_bytes us → option_map tail_in r ≡ tail_of us) where
+  pub suffixes_end : r ≡ None → (ks : List Key) (e : ℕ) → SuffixesFound q k t ks e → (ks ≡ []) × (e ≡ 0)
+  suffixes_end z ks e s = (s.is ∙ none_taken q k s.suffixes (tail_end s.suffixes (rw z at (is s.suffixes s.fixed s.bytes))), s.entered)
 
-  -- the first lies above the range, and so do all
-  pub suffixes_above : (path next : ℕ) → r ≡ At path next → {n from to : ℕ} → Spans q (at 0 k) n from to → length (at 0 k) + n ≡ value_size → to < number (part 22 path t)
-      → (ks : List Key) (e : ℕ) → SuffixesFound q k t ks e → (ks ≡ []) × (e ≡ 0)
-  suffixes_above path next z {to = to} spans whole h ks e s =
-      let v = tail_at t s.suffixes path next s.fixed s.bytes (sym z ∙ is s.suffixes s.fixed s.bytes) in
-      let above = rising_above v.t v.others (subst Rising v.is s.rises) to (rw v.places.value_is at h) in
-      (s.is ∙ ap (λ (us : List Key). pick (takes q) (map (under k) us)) v.is ∙ none_above q k spans whole above, s.entered)
+  module _ (x : Suffix) (z : r ≡ Some x) where
+    -- the first lies above the range, and so do all
+    pub suffixes_above : {n from to : ℕ} → Spans q (at 0 k) n from to → length (at 0 k) + n ≡ value_size → to < number x.value.now
+        → (ks : List Key) (e : ℕ) → SuffixesFound q k t ks e → (ks ≡ []) × (e ≡ 0)
+    suffixes_above {to = to} spans whole h ks e s =
+        let v = seen_in r x s.suffixes s.fixed (is s.suffixes s.fixed s.bytes) z in
+        let above = rising_above v.t v.others (subst Rising v.is s.rises) to (rw v.value_is at h) in
+        (s.is ∙ ap (λ (us : List Key). pick (takes q) (map (under k) us)) v.is ∙ none_above q k spans whole above, s.entered)
 
-  pub suffixes_split : (path next : ℕ) → r ≡ At path next → (ks : List Key) (e : ℕ) → SuffixesFound q k t ks e
-      → Parts (OneKey q (suffix_key k t path next)) (SuffixesFound q k (part next (length t) t)) ks e
-  suffixes_split path next z ks e s =
-      let v = tail_at t s.suffixes path next s.fixed s.bytes (sym z ∙ is s.suffixes s.fixed s.bytes) in
-      let rises : Rising (v.t ∷ v.others) = subst Rising v.is s.rises in
-      let paths : All OfPath (under k v.t ∷ map (under k) v.others) = subst (λ (us : List Key). All OfPath (map (under k) us)) v.is s.paths in
-      record {
-        first = pick (takes q) (suffix_key k t path next ∷ []);
-        second = pick (takes q) (map (under k) v.others);
-        before = 0;
-        behind = 0;
-        one = (subst (λ (x : Key). OfPath (under k x)) (sym (seen_key v)) (all_head paths), refl, refl);
-        other = record { suffixes = v.others; fixed = v.fixed; paths = all_tail paths; rises = rising_tail v.t v.others rises; bytes = v.places.rest_is; is = refl; entered = refl };
-        is =
-            s.is
-            ∙ ap (λ (us : List Key). pick (takes q) (map (under k) us)) v.is
-            ∙ pick_append (takes q) (under k v.t ∷ []) (map (under k) v.others)
-            ∙ ap (λ (x : Key). pick (takes q) (under k x ∷ []) ++ pick (takes q) (map (under k) v.others)) (sym (seen_key v));
-        sum = s.entered;
-      }
+    pub suffixes_split : (ks : List Key) (e : ℕ) → SuffixesFound q k t ks e → Parts (OneKey q (suffix_key k x.value.now x.path.now x.reference.now)) (SuffixesFound q k x.rest.now) ks e
+    suffixes_split ks e s =
+        let v = seen_in r x s.suffixes s.fixed (is s.suffixes s.fixed s.bytes) z in
+        let rises : Rising (v.t ∷ v.others) = subst Rising v.is s.rises in
+        let paths : All OfPath (under k v.t ∷ map (under k) v.others) = subst (λ (us : List Key). All OfPath (map (under k) us)) v.is s.paths in
+        record {
+          first = pick (takes q) (suffix_key k x.value.now x.path.now x.reference.now ∷ []);
+          second = pick (takes q) (map (under k) v.others);
+          before = 0;
+          behind = 0;
+          one = (subst (λ (y : Key). OfPath (under k y)) (sym (seen_key v)) (all_head paths), refl, refl);
+          other = record { suffixes = v.others; fixed = v.fixed; paths = all_tail paths; rises = rising_tail v.t v.others rises; bytes = v.rest_is; is = refl; entered = refl };
+          is =
+              s.is
+              ∙ ap (λ (us : List Key). pick (takes q) (map (under k) us)) v.is
+              ∙ pick_append (takes q) (under k v.t ∷ []) (map (under k) v.others)
+              ∙ ap (λ (y : Key). pick (takes q) (under k y ∷ []) ++ pick (takes q) (map (under k) v.others)) (sym (seen_key v));
+          sum = s.entered;
+        }
 
-module _ {Has : List Key → ℕ → Type 0} {q : Query} {v p room n c : ℕ} {s₀ k₀ s k t : List ℕ} {m d : ℕ}
-    (l : Finding Has (SuffixesFound q (known v p k₀) t) v p room n c s₀ k₀ s k m d) {r : Tail} (is : (us : List Key) → All Fixed us → t ≡ suffixes_bytes us → r ≡ tail_of us)
-    (path next : ℕ) (e : r ≡ At path next) {k' : List ℕ} {b : Bool} (taken : Taken q v p t path next k k' b) where
-  now_key : suffix_key (known v p k) t path next ≡ suffix_key (known v p k₀) t path next
-  now_key = ap (λ (y : Strings). suffix_key y t path next) l.rows.kept
+module _ {Has : List Key → ℕ → Type 0} {q : Query} {y : Known} {room n c : ℕ} {s₀ k₀ s k t : List ℕ} {m d : ℕ}
+    (l : Finding Has (SuffixesFound q (known_strings y k₀) t) y.value y.path room n c s₀ k₀ s k m d) {r : Option Suffix}
+    (is : (us : List Key) → All Fixed us → t ≡ suffixes_bytes us → option_map tail_in r ≡ tail_of us)
+    (x : Suffix) (e : r ≡ Some x) {k' : List ℕ} {b : Bool} (taken : Taken q y x.value.now x.path.now x.reference.now k k' b) where
+  abbrev of_key : Strings → Key
+  of_key z = suffix_key z x.value.now x.path.now x.reference.now
 
-  now_path : OfPath (suffix_key (known v p k₀) t path next) → FirstBytes (region k path_at p ++ part path next t)
-  now_path f = subst FirstBytes (ap (λ (x : Key). at 1 x.strings) (sym now_key) ∙ key_path v p k t path next) f
+  now_key : of_key (known_strings y k) ≡ of_key (known_strings y k₀)
+  now_key = ap of_key l.rows.kept
 
-  pub suffixes_put : (s' : List ℕ) → room * row_size ≤ length s → b ≡ true → s' ≡ cond (ltb m room) (splice s (0 + m * row_size) (take row_size k')) s
-      → Finding Has (SuffixesFound q (known v p k₀) (part next (length t) t)) v p room n c s₀ k₀ s' k' (m + 1) d
+  now_path : OfPath (of_key (known_strings y k₀)) → FirstBytes (region k path_at y.path ++ x.path.now)
+  now_path f = subst FirstBytes (ap (λ (z : Key). at 1 z.strings) (sym now_key) ∙ key_path y.value y.path k x.value.now x.path.now x.reference.now) f
+
+  pub suffixes_put : (s' : List ℕ) → room * row_size ≤ length s → b ≡ true → s' ≡ cond (ltb m room) (splice s (m * row_size) (take row_size k')) s
+      → Finding Has (SuffixesFound q (known_strings y k₀) x.rest.now) y.value y.path room n c s₀ k₀ s' k' (m + 1) d
   unfolding key_row
-  suffixes_put s' fits y w =
-      let x = suffix_key (known v p k₀) t path next in
-      let has : OfPath x → takes q x ≡ true = λ f. ap (takes q) (sym now_key) ∙ sym (taken.is (now_path f)) ∙ y in
-      let row : take row_size k' ≡ key_row x = ap (take row_size) (taken.slot y ∙ ap key_slot now_key) in
-      finding_on l (searched_one q x s s' (ap has_slot (sym now_key) ∙ taken.fits y) has fits (rw row at w) taken.kept) (suffixes_split is path next e)
+  suffixes_put s' fits h w =
+      let z = of_key (known_strings y k₀) in
+      let has : OfPath z → takes q z ≡ true = λ f. ap (takes q) (sym now_key) ∙ sym (taken.is (now_path f)) ∙ h in
+      let row : take row_size k' ≡ key_row z = ap (take row_size) (taken.slot h ∙ ap key_slot now_key) in
+      finding_on l (searched_one q z s s' (ap has_slot (sym now_key) ∙ taken.fits h) has fits (rw row at w) taken.kept) (suffixes_split is x e)
 
-  pub suffixes_pass : b ≡ false → Finding Has (SuffixesFound q (known v p k₀) (part next (length t) t)) v p room n c s₀ k₀ s k' m d
-  suffixes_pass y =
-      let x = suffix_key (known v p k₀) t path next in
-      let has : OfPath x → takes q x ≡ false = λ f. ap (takes q) (sym now_key) ∙ sym (taken.is (now_path f)) ∙ y in
-      finding_on l (searched_none {Has = OneKey q x} taken.kept (λ ks a h. (h.1 ∙ pick_not (takes q) x (has h.0), h.2))) (suffixes_split is path next e)
+  pub suffixes_pass : b ≡ false → Finding Has (SuffixesFound q (known_strings y k₀) x.rest.now) y.value y.path room n c s₀ k₀ s k' m d
+  suffixes_pass h =
+      let z = of_key (known_strings y k₀) in
+      let has : OfPath z → takes q z ≡ false = λ f. ap (takes q) (sym now_key) ∙ sym (taken.is (now_path f)) ∙ h in
+      finding_on l (searched_none {Has = OneKey q z} taken.kept (λ ks a u. (u.1 ∙ pick_not (takes q) z (has u.0), u.2))) (suffixes_split is x e)

@@ -1,13 +1,16 @@
 -- The steps of a search. Assumes nothing.
 use mathlib.Core.Path.{◌≡◌, refl, sym, ap, ap₂, subst, ◌∙◌}
 use mathlib.Core.Bool.{Bool, true, false, cond, ◌&&◌, and-true}
-use Prim.Native.Nat.{ℕ, zero, suc, ◌+◌, ◌-◌, ◌≤◌}
+use Prim.Native.Nat.{ℕ, suc, ◌+◌, ◌-◌, ◌≤◌, min}
 use mathlib.Core.List.{List, [], ◌∷◌, ◌++◌, append-nil, append_assoc}
 use native.Mathlib.Omega.{arith}
-use lib.ListN.{length, take, drop}
-use lib.Dec.{eqb, leb, ltb}
-use lib.Seq.{take-take}
-use borrow.Author.Tests.{eq-eqb, ne_eqb, ltb-true, ltb-false, leb-true}
+use lib.ListN.{length, take, drop, length-append}
+use lib.Dec.{leb}
+use lib.Seq.{take-take, take_at, drop_at}
+use borrow.Author.Tests.{le-leb}
+use Rattle.std.specs.Prelude.{Option, Some, None, MatchOption}
+use Rattle.std.specs.Option.{is_some}
+use Rattle.std.proofs.lemmas.List.{take-append-drop}
 use Rattle.buffer.specs.Splice.{splice, region}
 use Rattle.buffer.proofs.Splice.{region_drop, region_add, region_before, region_at_lem, take_before}
 use Rattle.matcher.specs.Continued.{FirstBytes}
@@ -18,18 +21,23 @@ use Rattle.matcher.specs.declared.reach.Answer.TheVariants.{Match, Mismatch, Inc
 use Rattle.rows.specs.Sizes.{value_size, path_at}
 use Rattle.trie_theory.specs.Forest.{Strings, Key, join, under}
 use Rattle.trie_theory.specs.Strings.{at}
+use Rattle.trie_theory.specs.Dimensions.{below}
 use Rattle.trie_theory.specs.Search.{branch, enters}
 use Rattle.entries.specs.Slots.{slot_size}
 use Rattle.entries.specs.Query.{Query, value_reach, reaches, wants, is_match}
-use Rattle.gather.specs.KeySlots.{ended_limit, has_slot, key_slot, known, suffix_key}
-use Rattle.gather.specs.Walks.{Entered}
+use Rattle.gather.specs.KeySlots.{ended_limit, has_room, has_slot, key_slot, known, suffix_key}
+use Rattle.gather.specs.Walks.{Entered, Deeper, known_strings}
+use Rattle.gather.specs.declared.known.Known.{Known}
 use Rattle.gather.proofs.Filling.{known_same, unfilled, slot_kept}
-use Rattle.trie_read.specs.Shape.{part}
-use Rattle.trie_read.proofs.Stretch.{length_part}
-use Rattle.buffer.proofs.Tests.{not_both, and_left, and_right, and_both, and_false}
+use Rattle.trie_read.specs.Shape.{above_of}
+use Rattle.trie_read.specs.Suffixes.{SuffixStands}
+use Rattle.trie_read.specs.declared.suffixes.Suffix.{Suffix}
+use Rattle.trie_read.specs.declared.kind.Dimension.{Dimension}
+use Rattle.trie_read.specs.declared.kind.Dimension.TheVariants.{Value, Path, Other}
+use Rattle.buffer.proofs.Tests.{not_both, and_both, and_false}
 use Rattle.value_range.specs.Spans.{Spans}
 use Rattle.search.specs.declared.step.Common.{Common}
-use Rattle.search.specs.Steps.{both, root_kind, over, takes, InCommon, Descended, Taken}
+use Rattle.search.specs.Steps.{both, takes, InCommon, Descended, Taken}
 
 -- ---- both dimensions
 
@@ -65,70 +73,61 @@ branch_others : (d : ℕ) (k l s t : List ℕ) → branch (suc (suc d)) (k ∷ l
 unfolding branch
 branch_others d k l s t = refl
 
--- the branching byte of t[path..body]
-first_part : (b : Bool) (t : List ℕ) (path body : ℕ) → ltb path body ≡ b → path ≤ body → part path (cond b (path + 1) path) t ≡ take 1 (part path body t)
-first_part true t path body e h =
-    let l = ltb-true path body e in
-    let z : path + 1 - path ≡ 1 = omega arith in
-    rw z (sym (take-take 1 (body - path) (drop path t) (omega arith)))
-first_part false t path body e h =
-    let l = ltb-false path body e in
-    let z : path - path ≡ 0 = omega arith in
-    let y : body - path ≡ 0 = omega arith in
-    rw (z, y)
-
--- a node that branches in the path, and one that branches in neither dimension
+-- below a node that branches in the value, in the path, and in neither dimension
 module _ (q : Query) (v p : ℕ) (k a b s : List ℕ) where
-  pub enters_second : s ≡ take 1 b → goes_on (value_reach q (take v k)) && goes_on (reach_of q.pattern (region k path_at p ++ s)) ≡ enters (reaches q) (over 2) (known v p k) (a ∷ b ∷ [])
-  unfolding over enters reaches known
+  pub enters_first : goes_on (value_reach q (take v k ++ take 1 a)) && goes_on (reach_of q.pattern (region k path_at p)) ≡ enters (reaches q) (below 0) (known v p k) (a ∷ b ∷ [])
+  unfolding enters reaches known
+  enters_first = ap (reaches q) (sym (branch_value (take v k) a (region k path_at p ∷ []) (b ∷ [])))
+
+  pub enters_second : s ≡ take 1 b → goes_on (value_reach q (take v k)) && goes_on (reach_of q.pattern (region k path_at p ++ s)) ≡ enters (reaches q) (below 1) (known v p k) (a ∷ b ∷ [])
+  unfolding enters reaches known
   enters_second e = rw e (ap (reaches q) (sym (branch_path (take v k) (region k path_at p) a b)))
 
-  enters_others : (d : ℕ) → (suc (suc (suc d)) ≡ root_kind → ⊥) → s ≡ []
-      → goes_on (value_reach q (take v k)) && goes_on (reach_of q.pattern (region k path_at p ++ s)) ≡ enters (reaches q) (over (suc (suc (suc d)))) (known v p k) (a ∷ b ∷ [])
-  unfolding over enters reaches known
-  enters_others d r e =
-      let n : suc (suc (suc d)) - 1 ≡ suc (suc d) = omega arith in
-      rw (ne_eqb (suc (suc (suc d))) root_kind r, n, e, append-nil (region k path_at p)) (ap (reaches q) (sym (branch_others d (take v k) (region k path_at p) a b)))
+  pub enters_others : (d : ℕ) → goes_on (value_reach q (take v k)) && goes_on (reach_of q.pattern (region k path_at p ++ [])) ≡ enters (reaches q) (below (suc (suc d))) (known v p k) (a ∷ b ∷ [])
+  unfolding enters reaches known
+  enters_others d = rw (append-nil (region k path_at p)) (ap (reaches q) (sym (branch_others d (take v k) (region k path_at p) a b)))
 
-no_part : (t : List ℕ) (path : ℕ) → part path path t ≡ []
-no_part t path = let z : path - path ≡ 0 = omega arith in rw z
+-- a search enters a root, and a child where the bytes known at its parent with the branching byte added can be continued
+module _ (q : Query) (above : Option Dimension) (v p : ℕ) (k a b : List ℕ) where
+  pub enters_root : above ≡ None → true ≡ enters (reaches q) (above_of above) (known v p k) (a ∷ b ∷ [])
+  unfolding enters
+  enters_root e = rw e
 
-module _ (q : Query) (kind v p : ℕ) (k a : List ℕ) where
-  -- a search enters the root, and a child where the bytes known at its parent with the branching byte added can be continued
-  pub enters_root : (b : List ℕ) → kind ≡ root_kind → true ≡ enters (reaches q) (over kind) (known v p k) (a ∷ b ∷ [])
-  unfolding over enters
-  enters_root b e = rw (eq-eqb kind root_kind e)
+  pub enters_value : above ≡ Some Value
+      → goes_on (value_reach q (take v k ++ take 1 a)) && goes_on (reach_of q.pattern (region k path_at p)) ≡ enters (reaches q) (above_of above) (known v p k) (a ∷ b ∷ [])
+  enters_value e = rw e (enters_first q v p k a b [])
 
-  pub enters_value : (b : List ℕ) → kind ≡ 1
-      → goes_on (value_reach q (take v k ++ take 1 a)) && goes_on (reach_of q.pattern (region k path_at p)) ≡ enters (reaches q) (over kind) (known v p k) (a ∷ b ∷ [])
-  unfolding over enters reaches known
-  enters_value b e = rw e (ap (reaches q) (sym (branch_value (take v k) a (region k path_at p ∷ []) (b ∷ []))))
-
-  pub enters_path : (t : List ℕ) (path body end : ℕ) → (kind ≡ 0 → ⊥) → (kind ≡ 1 → ⊥) → (kind ≡ root_kind → ⊥) → path ≤ body
-      → end ≡ cond (eqb kind 2 && ltb path body) (path + 1) path
-      → goes_on (value_reach q (take v k)) && goes_on (reach_of q.pattern (region k path_at p ++ part path end t))
-      ≡ enters (reaches q) (over kind) (known v p k) (a ∷ part path body t ∷ [])
-  enters_path t path body end = go kind
+  pub enters_path : above ≡ Some Path
+      → goes_on (value_reach q (take v k)) && goes_on (reach_of q.pattern (region k path_at p ++ take (min (length b) 1) b)) ≡ enters (reaches q) (above_of above) (known v p k) (a ∷ b ∷ [])
+  enters_path e = rw e (enters_second q v p k a b _ (first_of b))
     where
-      go : (n : ℕ) → (n ≡ 0 → ⊥) → (n ≡ 1 → ⊥) → (n ≡ root_kind → ⊥) → path ≤ body → end ≡ cond (eqb n 2 && ltb path body) (path + 1) path
-          → goes_on (value_reach q (take v k)) && goes_on (reach_of q.pattern (region k path_at p ++ part path end t))
-          ≡ enters (reaches q) (over n) (known v p k) (a ∷ part path body t ∷ [])
-      go zero z o r h e = absurd (z refl)
-      go (suc zero) z o r h e = absurd (o refl)
-      go (suc (suc zero)) z o r h e = enters_second q v p k a (part path body t) (part path end t) (ap (λ (i : ℕ). part path i t) e ∙ first_part (ltb path body) t path body refl h)
-      go (suc (suc (suc d))) z o r h e = enters_others q v p k a (part path body t) (part path end t) d r
-          (ap (λ (i : ℕ). part path i t) (rw (ne_eqb (suc (suc (suc d))) 2 (λ y. omega arith)) at e) ∙ no_part t path)
+      first_of : (b : List ℕ) → take (min (length b) 1) b ≡ take 1 b
+      first_of [] = refl
+      first_of (c ∷ b) = let z : min (suc (length b)) 1 ≡ 1 = omega arith in rw z
 
-part_join : (t : List ℕ) (path end body : ℕ) → path ≤ end → end ≤ body → part path body t ≡ part path end t ++ part end body t
-part_join t path end body h l =
-    let sum : end - path + (body - end) ≡ body - path = omega arith in
-    let seam : path + (end - path) ≡ end = omega arith in
-    rw (sum, seam) at (region_add t path (end - path) (body - end))
+  pub enters_other : (c : ℕ) → above ≡ Some (Other c)
+      → goes_on (value_reach q (take v k)) && goes_on (reach_of q.pattern (region k path_at p ++ [])) ≡ enters (reaches q) (above_of above) (known v p k) (a ∷ b ∷ [])
+  enters_other c e = rw e (enters_others q v p k a b [] (c - 3))
+
+-- what stands above is one thing
+pub apart_none : {above : Option Dimension} {d : Dimension} → above ≡ Some d → above ≡ None → ⊥
+apart_none e z = absurd cc
+
+some_same : {a b : Dimension} → Some a ≡ Some b → a ≡ b
+some_same h = cc
+
+pub apart_else : {above : Option Dimension} {d : Dimension} → above ≡ Some d → (d ≡ Value → ⊥) → above ≡ Some Value → ⊥
+apart_else e n z = n (some_same (sym e ∙ z))
+
+pub path_apart : {d : Dimension} → d ≡ Path → d ≡ Value → ⊥
+path_apart e z = let y : Path ≡ Value = sym e ∙ z in absurd cc
+
+pub other_apart : {d : Dimension} (c : ℕ) → d ≡ Other c → d ≡ Value → ⊥
+other_apart c e z = let y : Other c ≡ Value = sym e ∙ z in absurd cc
 
 -- fewer of the first bytes of a path
-pub first_less : (k t : List ℕ) (path end body : ℕ) → path ≤ end → end ≤ body → FirstBytes (k ++ part path body t) → FirstBytes (k ++ part path end t)
-first_less k t path end body h l f =
-    first_before (k ++ part path end t) (part end body t) (subst FirstBytes (ap (λ (s : List ℕ). k ++ s) (part_join t path end body h l) ∙ sym (append_assoc k (part path end t) (part end body t))) f)
+pub first_less : (k t : List ℕ) (n : ℕ) → FirstBytes (k ++ t) → FirstBytes (k ++ take n t)
+first_less k t n f = first_before (k ++ take n t) (drop n t) (subst FirstBytes (ap (λ (s : List ℕ). k ++ s) (sym (take-append-drop n t)) ∙ sym (append_assoc k (take n t) (drop n t))) f)
 
 -- ---- the step to a node
 
@@ -152,85 +151,80 @@ known_front v p k k' long long' h e =
     (sym (take-take v (path_at + p) k' (omega arith)) ∙ ap (take v) e ∙ take-take v (path_at + p) k (omega arith))
     (region_drop k' path_at p (omega arith) ∙ ap (drop path_at) e ∙ sym (region_drop k path_at p (omega arith)))
 
-module _ {q : Query} {kind v p path body : ℕ} {t k k₁ : List ℕ} (kept : known v p k₁ ≡ known v p k) where
-  pub descended : {k' : List ℕ} {r : Bool} → Entered v p t path body k₁ k' r
-      → (FirstBytes (region k path_at p ++ part path body t) → true ≡ enters (reaches q) (over kind) (known v p k) (part 7 path t ∷ part path body t ∷ [])) → Descended q kind v p t path body k k' r
-  descended e y =
+room_told : (x : Known) (value path k k' : List ℕ) (r : Option Known) → MatchOption r (has_room x.value x.path value path ≡ false) (Deeper x value path k k') → is_some r ≡ has_room x.value x.path value path
+room_told x value path k k' None e = sym e
+room_told x value path k k' (Some y) d =
+    sym (and_both (le-leb (x.value + length value) value_size (omega (arith, d.value_is, y.value_fits))) (le-leb (x.path + length path) ended_limit (omega (arith, d.path_is, y.path_fits))))
+
+deeper_told : (x : Known) (value path k k₁ k' : List ℕ) → known_strings x k₁ ≡ known_strings x k → (r : Option Known)
+    → MatchOption r (has_room x.value x.path value path ≡ false) (Deeper x value path k₁ k') → MatchOption r (Unit {0}) (Deeper x value path k k')
+deeper_told x value path k k₁ k' kept None e = tt
+deeper_told x value path k k₁ k' kept (Some y) d = record { value_is = d.value_is; path_is = d.path_is; joins = d.joins ∙ ap (λ (s : Strings). join s (value ∷ path ∷ [])) kept }
+
+module _ {q : Query} {above : Option Dimension} {x : Known} {value path k k₁ : List ℕ} (kept : known_strings x k₁ ≡ known_strings x k) where
+  pub descended : {k' : List ℕ} {r : Option Known} → Entered x value path k₁ k' r
+      → (FirstBytes (region k path_at x.path ++ path) → true ≡ enters (reaches q) (above_of above) (known_strings x k) (value ∷ path ∷ [])) → Descended q above x value path k k' r
+  descended {k' = k'} {r = r} e y =
       record {
-        room = λ z. sym e.is ∙ z;
-        is = λ f. e.is ∙ rw (← y f) (sym (and-true (leb (v + (path - 7)) value_size && leb (p + (body - path)) ended_limit)));
-        joins = λ z. e.joins z ∙ ap (λ (x : Strings). join x (part 7 path t ∷ part path body t ∷ [])) kept;
+        deeper = deeper_told x value path k k₁ k' kept r e.is;
+        is = λ f. room_told x value path k₁ k' r e.is ∙ rw (← y f) (sym (and-true (has_room x.value x.path value path)));
         kept = e.kept ∙ kept;
       }
 
-  pub not_descended : (FirstBytes (region k path_at p ++ part path body t) → false ≡ enters (reaches q) (over kind) (known v p k) (part 7 path t ∷ part path body t ∷ [])) → Descended q kind v p t path body k k₁ false
-  not_descended y = record { room = λ z. not_both z refl; is = λ f. sym (and_false (leb (v + (path - 7)) value_size && leb (p + (body - path)) ended_limit) _ (sym (y f))); joins = λ z. not_both z refl; kept = kept }
-
--- a node that a search goes down to has room
-pub descended_room : {q : Query} {kind v p path body : ℕ} {t k k' : List ℕ} {r : Bool} → Descended q kind v p t path body k k' r → r ≡ true
-    → (v + (path - 7) ≤ value_size) × (p + (body - path) ≤ ended_limit)
-descended_room {v = v} {p} {path} {body} e y =
-    let a = leb (v + (path - 7)) value_size in
-    let b = leb (p + (body - path)) ended_limit in
-    let both = e.room y in
-    (leb-true (v + (path - 7)) value_size (and_left a b both), leb-true (p + (body - path)) ended_limit (and_right a b both))
+  pub not_descended : (FirstBytes (region k path_at x.path ++ path) → false ≡ enters (reaches q) (above_of above) (known_strings x k) (value ∷ path ∷ [])) → Descended q above x value path k k₁ None
+  not_descended y = record { deeper = tt; is = λ f. sym (and_false (has_room x.value x.path value path) _ (sym (y f))); kept = kept }
 
 -- ---- the step to a key
 
-module _ (q : Query) (v p : ℕ) (b : List ℕ) (path next : ℕ) (k : List ℕ) (long : length k ≡ slot_size) (value : v ≤ value_size) (ended : p ≤ ended_limit)
-    (order : path ≤ next) (inside : next ≤ length b) where
-  abbrev x : Key
-  x = suffix_key (known v p k) b path next
+module _ (q : Query) (x : Known) (value path reference k : List ℕ) (long : length k ≡ slot_size) where
+  abbrev y : Key
+  y = suffix_key (known_strings x k) value path reference
 
   -- the test of both dimensions
-  wants_both : is_match (value_reach q (take v k ++ part 22 path b)) && is_match (reach_of q.pattern (region k path_at p ++ part path next b)) ≡ wants q x
+  wants_both : is_match (value_reach q (take x.value k ++ value)) && is_match (reach_of q.pattern (region k path_at x.path ++ path)) ≡ wants q y
   unfolding wants under join known
   wants_both = refl
 
-  pub wants_told : (a m : Answer) (r : Bool) → a ≡ value_reach q (take v k ++ part 22 path b)
-      → m ≡ both a (reach_of q.pattern (region k path_at p ++ part path next b)) → r ≡ is_match m → wants q x ≡ r
+  pub wants_told : (a m : Answer) (r : Bool) → a ≡ value_reach q (take x.value k ++ value)
+      → m ≡ both a (reach_of q.pattern (region k path_at x.path ++ path)) → r ≡ is_match m → wants q y ≡ r
   wants_told a m r e f g =
-      let t = reach_of q.pattern (region k path_at p ++ part path next b) in
-      sym wants_both ∙ ap (λ (y : Answer). is_match y && is_match t) (sym e) ∙ sym (both_match a t) ∙ sym (ap is_match f) ∙ sym g
+      let t = reach_of q.pattern (region k path_at x.path ++ path) in
+      sym wants_both ∙ ap (λ (z : Answer). is_match z && is_match t) (sym e) ∙ sym (both_match a t) ∙ sym (ap is_match f) ∙ sym g
 
-  taken_not : {k' : List ℕ} → (FirstBytes (region k path_at p ++ part path next b) → has_slot x && wants q x ≡ false) → known v p k' ≡ known v p k → Taken q v p b path next k k' false
+  taken_not : {k' : List ℕ} → (FirstBytes (region k path_at x.path ++ path) → has_slot y && wants q y ≡ false) → known_strings x k' ≡ known_strings x k → Taken q x value path reference k k' false
   unfolding takes
-  taken_not h e = record { fits = λ y. not_both y refl; is = λ f. sym (h f); slot = λ y. not_both y refl; kept = e }
+  taken_not h e = record { fits = λ z. not_both z refl; is = λ f. sym (h f); slot = λ z. not_both z refl; kept = e }
 
   -- there is no slot for so many bytes
-  pub taken_none : (v + (path - 22) ≡ value_size → p + (next - path) ≤ ended_limit → ⊥) → Taken q v p b path next k k false
+  pub taken_none : (x.value + length value ≡ value_size → x.path + length path ≤ ended_limit → ⊥) → Taken q x value path reference k k false
   taken_none h =
-      taken_not
-      (λ f. ap (λ (y : Bool). y && wants q x)
-      (unfilled k (part 22 path b) (part path next b) (part 2 22 b) v p long value ended
-      (λ e l m. h (omega (arith, e, length_part b 22 path (omega arith))) (omega (arith, m, length_part b path next inside)))))
-      refl
+      taken_not (λ f. ap (λ (z : Bool). z && wants q y) (unfilled k value path reference x.value x.path long x.value_fits x.path_fits (λ e l m. h e m))) refl
 
-  module _ (k₁ : List ℕ) (same : known v p k₁ ≡ known v p k) where
+  module _ (k₁ : List ℕ) (same : known_strings x k₁ ≡ known_strings x k) where
     -- it does not match
-    pub taken_out : (FirstBytes (region k path_at p ++ part path next b) → wants q x ≡ false) → Taken q v p b path next k k₁ false
-    taken_out h = taken_not (λ f. and_false (has_slot x) (wants q x) (h f)) same
+    pub taken_out : (FirstBytes (region k path_at x.path ++ path) → wants q y ≡ false) → Taken q x value path reference k k₁ false
+    taken_out h = taken_not (λ f. and_false (has_slot y) (wants q y) (h f)) same
 
     -- it matches, and has a slot or not
-    taken_in : {k' : List ℕ} → (FirstBytes (region k path_at p ++ part path next b) → wants q x ≡ true) → has_slot x ≡ true → k' ≡ key_slot x → Taken q v p b path next k k' true
+    taken_in : {k' : List ℕ} → (FirstBytes (region k path_at x.path ++ path) → wants q y ≡ true) → has_slot y ≡ true → k' ≡ key_slot y → Taken q x value path reference k k' true
     unfolding takes
     taken_in w h e =
         record {
-          fits = λ y. h;
+          fits = λ z. h;
           is = λ f. sym (and_both h (w f));
-          slot = λ y. e;
-          kept = ap (known v p) e ∙ slot_kept k (part 22 path b) (part path next b) (part 2 22 b) v p long value ended h;
+          slot = λ z. e;
+          kept = ap (known x.value x.path) e ∙ slot_kept k value path reference x.value x.path long x.value_fits x.path_fits h;
         }
 
-    pub taken_slot : (k' : List ℕ) (r : Bool) → (FirstBytes (region k path_at p ++ part path next b) → wants q x ≡ true) → r ≡ has_slot (suffix_key (known v p k₁) b path next)
-        → k' ≡ cond r (key_slot (suffix_key (known v p k₁) b path next)) k₁ → Taken q v p b path next k k' r
+    pub taken_slot : (k' : List ℕ) (r : Bool) → (FirstBytes (region k path_at x.path ++ path) → wants q y ≡ true) → r ≡ has_slot (suffix_key (known_strings x k₁) value path reference)
+        → k' ≡ cond r (key_slot (suffix_key (known_strings x k₁) value path reference)) k₁ → Taken q x value path reference k k' r
     taken_slot k' r w h e =
-        let y : suffix_key (known v p k₁) b path next ≡ x = ap (λ (z : Strings). suffix_key z b path next) same in
-        slotted_or r k' w (h ∙ ap has_slot y) (e ∙ ap (λ (z : Key). cond r (key_slot z) k₁) y)
+        let z : suffix_key (known_strings x k₁) value path reference ≡ y = ap (λ (s : Strings). suffix_key s value path reference) same in
+        slotted_or r k' w (h ∙ ap has_slot z) (e ∙ ap (λ (u : Key). cond r (key_slot u) k₁) z)
       where
-        slotted_or : (r : Bool) (k' : List ℕ) → (FirstBytes (region k path_at p ++ part path next b) → wants q x ≡ true) → r ≡ has_slot x → k' ≡ cond r (key_slot x) k₁ → Taken q v p b path next k k' r
+        slotted_or : (r : Bool) (k' : List ℕ) → (FirstBytes (region k path_at x.path ++ path) → wants q y ≡ true) → r ≡ has_slot y → k' ≡ cond r (key_slot y) k₁ → Taken q x value path reference k k' r
         slotted_or true k' w h e = taken_in w (sym h) e
-        slotted_or false k' w h e = taken_not (λ f. rw (← h)) (ap (known v p) e ∙ same)
+        slotted_or false k' w h e = taken_not (λ f. rw (← h)) (ap (known x.value x.path) e ∙ same)
 
 -- ---- the path known, in strings and in the buffer
 
@@ -238,18 +232,18 @@ pub node_path : (v p : ℕ) (k a b : List ℕ) → at 1 (join (known v p k) (a �
 unfolding join known
 node_path v p k a b = refl
 
-pub key_path : (v p : ℕ) (k b : List ℕ) (path next : ℕ) → at 1 (suffix_key (known v p k) b path next).strings ≡ region k path_at p ++ part path next b
+pub key_path : (v p : ℕ) (k value path reference : List ℕ) → at 1 (suffix_key (known v p k) value path reference).strings ≡ region k path_at p ++ path
 unfolding under join known
-key_path v p k b path next = refl
+key_path v p k value path reference = refl
 
 -- ---- what was asked once holds as long as what is known stays
 
-pub common_kept : {q : Query} {kind v p : ℕ} {k k' : List ℕ} {r : Common} → InCommon q kind v p k r → known v p k' ≡ known v p k → InCommon q kind v p k' r
+pub common_kept : {q : Query} {above : Option Dimension} {x : Known} {k k' : List ℕ} {r : Common} → InCommon q above x k r → known_strings x k' ≡ known_strings x k → InCommon q above x k' r
 unfolding known
-common_kept {q} {kind} {v} {p} {k} {k'} c e =
-    let a : take v k' ≡ take v k = cc in
-    let b : region k' path_at p ≡ region k path_at p = cc in
-    record { bytes = λ o l. rw a (c.bytes o l); other = λ z f. rw (a, b) (c.other z (λ o. rw b at (f o))); single = λ y. rw e (c.single y) }
+common_kept {q} {above} {x} {k} {k'} c e =
+    let a : take x.value k' ≡ take x.value k = cc in
+    let b : region k' path_at x.path ≡ region k path_at x.path = cc in
+    record { bytes = λ o l. rw a (c.bytes o l); path = λ o f. rw b (c.path o (rw b at f)); value = λ z o. rw a (c.value z o); single = λ y. rw e (c.single y) }
 
 pub span_kept : {q : Query} {n from to : ℕ} (v p : ℕ) (k k' : List ℕ) → Spans q (take v k) n from to → known v p k' ≡ known v p k → Spans q (take v k') n from to
 unfolding known
@@ -263,3 +257,13 @@ known_span v p k s = s
 pub known_long : (v p : ℕ) (k : List ℕ) → length (at 0 (known v p k)) ≡ length (take v k)
 unfolding known
 known_long v p k = refl
+
+-- the value bytes of a suffix are the first behind its reference
+pub tail_value : {b : List ℕ} {x : Suffix} → SuffixStands b x → take (length x.value.now) (drop 22 b) ≡ x.value.now
+tail_value {b} {x} w =
+    let lead = w.lead ++ x.reference.now in
+    let long : length lead ≡ 22 = omega (arith, length-append w.lead x.reference.now, w.lead_long, w.reference_long) in
+    let is : b ≡ lead ++ (x.value.now ++ (x.path.now ++ x.rest.now)) = w.is ∙ sym (append_assoc w.lead x.reference.now (x.value.now ++ (x.path.now ++ x.rest.now))) in
+    ap (λ (t : List ℕ). take (length x.value.now) (drop 22 t)) is
+    ∙ ap (λ (t : List ℕ). take (length x.value.now) t) (drop_at lead _ 22 long)
+    ∙ take_at x.value.now (x.path.now ++ x.rest.now) (length x.value.now) refl

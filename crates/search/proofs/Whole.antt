@@ -24,8 +24,8 @@ use Rattle.gather.proofs.Filling.{slotted}
 pub use Rattle.gather.proofs.Filling.{entry_row}
 use Rattle.gather.proofs.Gathering.{known_nothing}
 use Rattle.gather.proofs.Splitting.{join_longer, blank, keys_root}
-use Rattle.search.specs.Steps.{root_kind, over, takes}
-use Rattle.search.specs.Searches.{OfPath, Searched, TrieSearched, TrieFound, BodyFound, AtNode, NodesFit}
+use Rattle.search.specs.Steps.{takes}
+use Rattle.search.specs.Searches.{OfPath, Searched, TrieSearched, TrieFound, TriesFound, AtNode, NodesFit}
 
 -- ---- room
 
@@ -104,35 +104,26 @@ nodes_root reach (leaf s ts more) h = ap (λ (n : ℕ). 1 + n) (nodes_root reach
 nodes_root reach (inner d s children more) h =
     ap₂ (λ (x y : ℕ). 1 + x + y) (ap (λ (l : Strings). nodes_entered reach (below d) l children) (blank s h.0)) (nodes_root reach more h.2)
 
-over_root : over root_kind ≡ root
-unfolding over
-over_root = refl
-
--- a trie is a body of the kind of no node
-whole : (k : List ℕ) {q : Query} {t : List ℕ} {ks : List Key} {e : ℕ} → TrieFound q t ks e → BodyFound q root_kind node_limit (known 0 0 k) t ks e
+whole : (k : List ℕ) {q : Query} {t : List ℕ} {ks : List Key} {e : ℕ} → TrieFound q t ks e → TriesFound q root node_limit (known 0 0 k) t ks e
 whole k {q} w =
     let f = w.tries in
     let slots : all has_slot (keys nothing f) ≡ true = ap (all has_slot) (keys_root f w.regular) ∙ w.slots in
     let paths : All OfPath (keys nothing f) = subst (All OfPath) (sym (keys_root f w.regular)) w.paths in
+    rw (known_nothing k)
     record {
-      leaf = λ z. absurd (omega arith);
-      inner = λ z.
-          rw (known_nothing k, over_root)
-          record {
-            tries = f;
-            regular = w.regular;
-            sound = w.sound;
-            high = w.high;
-            nodes_fit = nodes_fit 2 root nothing f w.sound slots paths;
-            paths = paths;
-            rises = w.rises;
-            bytes = w.bytes;
-            is = w.is ∙ sym (found_root (reaches q) (wants q) f w.regular) ∙ found_takes q (reaches q) root nothing f slots;
-            entered = w.entered ∙ sym (nodes_root (reaches q) f w.regular);
-          };
+      tries = f;
+      regular = w.regular;
+      sound = w.sound;
+      high = w.high;
+      nodes_fit = nodes_fit 2 root nothing f w.sound slots paths;
+      paths = paths;
+      rises = w.rises;
+      bytes = w.bytes;
+      is = w.is ∙ sym (found_root (reaches q) (wants q) f w.regular) ∙ found_takes q (reaches q) root nothing f slots;
+      entered = w.entered ∙ sym (nodes_root (reaches q) f w.regular);
     }
 
-pub trie_searched : {q : Query} {t : List ℕ} {room n c : ℕ} {s k s' k' : List ℕ} {r d : ℕ} → Searched (BodyFound q root_kind node_limit (known 0 0 k) t) 0 0 room n c s k s' k' r d
+pub trie_searched : {q : Query} {t : List ℕ} {room n c : ℕ} {s k s' k' : List ℕ} {r d : ℕ} → Searched (TriesFound q root node_limit (known 0 0 k) t) 0 0 room n c s k s' k' r d
     → r ≤ n + length t → d ≤ c + length t → TrieSearched q t room n c s s' r d
 trie_searched {k = k} i a b =
     record {

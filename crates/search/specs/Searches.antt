@@ -6,18 +6,20 @@ use Rattle.matcher.specs.Continued.{FirstBytes}
 use Rattle.rows.specs.Sizes.{value_size, row_size, node_limit}
 use Rattle.trie_theory.specs.Forest.{Strings, Key, Forest, none, leaf, inner, join, under, keys}
 use Rattle.trie_theory.specs.Strings.{at}
-use Rattle.trie_theory.specs.Dimensions.{Above, root}
+use Rattle.trie_theory.specs.Dimensions.{Above, root, below}
 use Rattle.trie_theory.specs.Sound.{Sound, Rising, LeavesRise}
 use Rattle.trie_theory.specs.Size.{height}
 use Rattle.trie_theory.specs.Search.{found, nodes_entered}
 use Rattle.trie_theory.specs.Encode.{Regular, encode}
-use Rattle.entries.specs.Slots.{slot_size}
 use Rattle.entries.specs.Query.{Query, reaches, wants}
 use Rattle.trie_read.specs.Shape.{Fixed}
+use Rattle.trie_read.specs.Kinds.{number_of}
+use Rattle.trie_read.specs.declared.kind.Kind.{Kind}
+use Rattle.trie_read.specs.declared.kind.Kind.TheVariants.{Leaf, Inner}
 use Rattle.trie_read.specs.Suffixes.{suffixes_bytes}
 use Rattle.gather.specs.KeySlots.{ended_limit, has_slot}
 use Rattle.gather.specs.Walks.{written, Put}
-use Rattle.search.specs.Steps.{over, takes, key_row}
+use Rattle.search.specs.Steps.{takes, key_row}
 
 -- the path bytes of a key are the first of a formed path and its end byte; of an entry's key they are all of them
 abbrev pub OfPath : Key → Type 0
@@ -74,7 +76,7 @@ NodesFit k none = Unit {0}
 NodesFit k (leaf s ts more) = AtNode (join k s) × NodesFit k more
 NodesFit k (inner d s children more) = AtNode (join k s) × NodesFit (join k s) children × NodesFit k more
 
--- the same of suffixes, of tries, and of the body of a node
+-- the same of suffixes, and of tries
 pub record SuffixesFound (q : Query) (k : Strings) (t : List ℕ) (ks : List Key) (e : ℕ) : Type 0 where
   pub suffixes : List Key
   pub fixed : All Fixed suffixes
@@ -96,15 +98,13 @@ pub record TriesFound (q : Query) (above : Above) (depth : ℕ) (k : Strings) (t
   pub is : ks ≡ found (reaches q) (takes q) above k tries
   pub entered : e ≡ nodes_entered (reaches q) above k tries
 
-pub record BodyFound (q : Query) (kind depth : ℕ) (k : Strings) (t : List ℕ) (ks : List Key) (e : ℕ) : Type 0 where
-  pub leaf : kind ≡ 0 → SuffixesFound q k t ks e
-  pub inner : (kind ≡ 0 → ⊥) → TriesFound q (over kind) depth k t ks e
+-- .. of the body of a node
+abbrev pub BodyFound : Query → Kind → (depth : ℕ) → Strings → (t : List ℕ) → (ks : List Key) → (e : ℕ) → Type 0
+BodyFound q Leaf depth k t ks e = SuffixesFound q k t ks e
+BodyFound q (Inner d) depth k t ks e = TriesFound q (below (number_of d)) depth k t ks e
 
--- what the walk asks for: room for as many rows in the answer, counters that do not overflow, a key buffer
-pub record Ready (t k s : List ℕ) (v p room rows nodes : ℕ) : Type 0 where
+-- what the walk asks for: room for as many rows in the answer, counters that do not overflow
+pub record Ready (t s : List ℕ) (room rows nodes : ℕ) : Type 0 where
   pub fits : room * row_size ≤ length s
   pub few_rows : rows + length t < word_limit
   pub few_nodes : nodes + length t < word_limit
-  pub buffer : length k ≡ slot_size
-  pub value : v ≤ value_size
-  pub path : p ≤ ended_limit

@@ -1,36 +1,31 @@
 // The steps of a search. The key buffer of a walk (crate gather) has the known bytes. What is the same for all children of a node, or for all suffixes
 // of a leaf, is asked once; of a child or a suffix the value is asked first, and its bytes are copied only where they are needed. The form of paths is not
 // looked at: those of a store that our calls left are formed, and of other bytes nothing is said of an answer.
-ghost use Rattle.std.specs.Prelude.{◌≡◌, true, cond, ◌&&◌, ℕ, ◌+◌, ◌-◌, ◌≤◌, ◌<◌, List, [], ◌∷◌, ◌++◌, length, take, eqb, ltb};
+ghost use Rattle.std.specs.Prelude.{◌≡◌, ◌&&◌, ℕ, ◌+◌, ◌-◌, ◌≤◌, ◌<◌, List, [], ◌∷◌, ◌++◌, length, take};
 ghost use Rattle.buffer.specs.Splice.{region, splice};
 ghost use Rattle.matcher.specs.Continued.{FirstBytes};
 ghost use Rattle.matcher.specs.Reach.{reach_of, goes_on};
-ghost use Rattle.rows.specs.Sizes.{value_size, path_at};
+ghost use Rattle.rows.specs.Sizes.{value_size, reference_size, path_at};
 ghost use Rattle.trie_theory.specs.Search.{enters};
-ghost use Rattle.trie_read.specs.Sizes.{head_size, suffix_size};
-ghost use Rattle.trie_read.specs.Shape.{part};
-ghost use Rattle.entries.specs.Slots.{slot_size};
+ghost use Rattle.trie_read.specs.Shape.{above_of};
 ghost use Rattle.entries.specs.Query.{value_reach, reaches, is_match, asked};
-ghost use Rattle.gather.specs.KeySlots.{ended_limit, known};
+ghost use Rattle.gather.specs.KeySlots.{ended_limit};
+ghost use Rattle.gather.specs.Walks.{known_strings};
 ghost use Rattle.value_range.specs.Spans.{Spans};
 ghost use Rattle.search.specs.Asks.{asks};
-ghost use Rattle.search.specs.Steps.{both, over, InCommon, Descended, Taken};
+ghost use Rattle.search.specs.Steps.{both, InCommon, Descended, Taken};
 
 use crate::query::Query;
 use buffer::moves::copy_from;
+use entries::SLOT_SIZE;
 use gather::key::{ENDED_LIMIT, compose, enter};
+use gather::known::Known;
 use matcher::reach::{Answer, one_leads, reach_from, ruled_out};
 use rows::sizes::{PATH_AT, VALUE_SIZE};
-use trie_read::sizes::{HEAD_SIZE, SUFFIX_SIZE};
+use trie_read::head::Node;
+use trie_read::kind::Dimension;
+use trie_read::suffixes::Suffix;
 use value_range::value::{Span, span_behind, value_reach, value_with};
-
-// Stands for the kind of a node where there is none above. No byte is that.
-pub const ROOT: usize = 256;
-
-// The kinds of a node that branches in the value, and of one that branches in the path.
-const VALUE_KIND: usize = 1;
-
-const PATH_KIND: usize = 2;
 
 // The answer of both dimensions together.
 fn both(value: Answer, path: Answer) -> Answer
@@ -76,30 +71,37 @@ fn branches(range: Span, known: &[u8]) -> Span
     Span::NONE
 }
 
-// Asks it at a node of a kind.
-pub(crate) fn ask_once(kind: usize, q: &Query<'_>, key: &[u8], v: usize, p: usize) -> Common
-    requires { (length key.now ≡ slot_size) × (v ≤ value_size) × (p ≤ ended_limit) × (kind ≡ 0 → ⊥) }
-    ensures { InCommon (asks q.now) kind v p key.now result }
+// Asks it of tries side by side, below a node that branches in a dimension, or of roots.
+pub(crate) fn ask_once(
+    q: &Query<'_>,
+    above: Option<Dimension>,
+    key: &[u8; SLOT_SIZE],
+    known: Known,
+) -> Common
+    ensures { InCommon (asks q.now) above known key.now result }
 {
-    if kind == ROOT {
+    let Some(dimension) = above else {
         return Common {
             bytes: Span::NONE,
             other: Answer::Incomplete,
             one: false,
         };
-    }
-    if kind == VALUE_KIND {
-        let bytes = branches(q.range, &key[..v]);
-        return Common {
-            bytes,
-            other: reach_from(q.pattern, q.literal, &key[PATH_AT..PATH_AT + p]),
-            one: bytes.from == bytes.to,
-        };
-    }
-    Common {
-        bytes: Span::NONE,
-        other: value_reach(q.range, &key[..v]),
-        one: one_leads(q.literal, p),
+    };
+    match dimension {
+        Dimension::Value => {
+            let bytes = branches(q.range, &key[..known.value]);
+            let end = PATH_AT + known.path;
+            Common {
+                bytes,
+                other: reach_from(q.pattern, q.literal, &key[PATH_AT..end]),
+                one: bytes.from == bytes.to,
+            }
+        }
+        _ => Common {
+            bytes: Span::NONE,
+            other: value_reach(q.range, &key[..known.value]),
+            one: one_leads(q.literal, known.path),
+        },
     }
 }
 
@@ -118,8 +120,8 @@ fn value_more(range: Span, known: &[u8], bytes: Span, s: &[u8]) -> Answer
 }
 
 // The answer for the path with the bytes s added, which are written behind those known.
-fn path_with(q: &Query<'_>, key: &mut [u8], p: usize, s: &[u8]) -> Answer
-    requires { (length key.old ≡ slot_size) × (p + length s.now ≤ ended_limit + 1) }
+fn path_with(q: &Query<'_>, key: &mut [u8; SLOT_SIZE], p: usize, s: &[u8]) -> Answer
+    requires { p + length s.now ≤ ended_limit + 1 }
     ensures value { FirstBytes (region key.old path_at p ++ s.now) → result ≡ reach_of q.now.pattern.now (region key.old path_at p ++ s.now) }
     ensures key_after { key.new ≡ splice key.old (path_at + p) s.now }
 {
@@ -130,8 +132,8 @@ fn path_with(q: &Query<'_>, key: &mut [u8], p: usize, s: &[u8]) -> Answer
 }
 
 // The same, but most paths differ from the pattern where that has no wild byte yet: they are ruled out, and nothing is written.
-fn path_answer(q: &Query<'_>, key: &mut [u8], p: usize, s: &[u8]) -> Answer
-    requires { (length key.old ≡ slot_size) × (p + length s.now ≤ ended_limit + 1) }
+fn path_answer(q: &Query<'_>, key: &mut [u8; SLOT_SIZE], p: usize, s: &[u8]) -> Answer
+    requires { p + length s.now ≤ ended_limit + 1 }
     ensures value { FirstBytes (region key.old path_at p ++ s.now) → result ≡ reach_of q.now.pattern.now (region key.old path_at p ++ s.now) }
     ensures key_unchanged { take (path_at + p) key.new ≡ take (path_at + p) key.old }
 {
@@ -142,8 +144,8 @@ fn path_answer(q: &Query<'_>, key: &mut [u8], p: usize, s: &[u8]) -> Answer
 }
 
 // The answer of both dimensions, where the value is answered and the path has the bytes s more: it is asked where the value is no mismatch.
-fn ask_path(value: Answer, q: &Query<'_>, key: &mut [u8], p: usize, s: &[u8]) -> Answer
-    requires { (length key.old ≡ slot_size) × (p + length s.now ≤ ended_limit + 1) }
+fn ask_path(value: Answer, q: &Query<'_>, key: &mut [u8; SLOT_SIZE], p: usize, s: &[u8]) -> Answer
+    requires { p + length s.now ≤ ended_limit + 1 }
     ensures value { FirstBytes (region key.old path_at p ++ s.now) → result ≡ both value (reach_of q.now.pattern.now (region key.old path_at p ++ s.now)) }
     ensures key_unchanged { take (path_at + p) key.new ≡ take (path_at + p) key.old }
 {
@@ -153,94 +155,77 @@ fn ask_path(value: Answer, q: &Query<'_>, key: &mut [u8], p: usize, s: &[u8]) ->
     }
 }
 
-// Where the branching byte of a node ends in t[path..body], if it stands there.
-fn one_more(kind: usize, own: usize, path: usize, body: usize) -> usize
-    requires { path ≤ body }
-    ensures { (result ≡ cond (eqb kind own && ltb path body) (path + 1) path) × (path ≤ result) × (result ≤ body) × (result ≤ path + 1) }
-{
-    if kind == own {
-        if path < body {
-            return path + 1;
-        }
-    }
-    path
-}
-
-// Does a search enter the node of the bytes t, whose parent is of a kind? The byte that it asks of may stand behind the known path then.
+// Does a search enter a node below one that branches in a dimension, or a root? The byte that it asks of may stand behind the known path then.
 fn admits(
     q: &Query<'_>,
-    kind: usize,
-    key: &mut [u8],
-    v: usize,
-    p: usize,
-    t: &[u8],
-    path: usize,
-    body: usize,
+    above: Option<Dimension>,
+    key: &mut [u8; SLOT_SIZE],
+    known: Known,
+    node: &Node<'_>,
     common: Common,
 ) -> bool
-    requires key_len { (length key.old ≡ slot_size) × (v ≤ value_size) × (p ≤ ended_limit) × (head_size ≤ path) × (path ≤ body) × (body ≤ length t.now) × (kind ≡ 0 → ⊥) }
-    requires in_common { InCommon (asks q.now) kind v p key.old common }
-    ensures value { FirstBytes (region key.old path_at p ++ part path body t.now) → result ≡ enters (reaches (asks q.now)) (over kind) (known v p key.old) (part head_size path t.now ∷ part path body t.now ∷ []) }
-    ensures key_unchanged { known v p key.new ≡ known v p key.old }
+    requires { InCommon (asks q.now) above known key.old common }
+    ensures value { FirstBytes (region key.old path_at known.path ++ node.now.path.now) → result ≡ enters (reaches (asks q.now)) (above_of above) (known_strings known key.old) (node.now.value.now ∷ node.now.path.now ∷ []) }
+    ensures key_unchanged { known_strings known key.new ≡ known_strings known key.old }
 {
-    if kind == ROOT { // it is entered
-        return true;
-    }
+    let Some(dimension) = above else {
+        return true; // it is entered
+    };
     let other = common.other;
-    if kind == VALUE_KIND {
-        let value = value_more(q.range, &key[..v], common.bytes, &t[HEAD_SIZE..path]);
-        return goes_on(both(value, other));
+    match dimension {
+        Dimension::Value => {
+            let value = value_more(q.range, &key[..known.value], common.bytes, node.value);
+            goes_on(both(value, other))
+        }
+        Dimension::Path => {
+            let byte = &node.path[..node.path.len().min(1)];
+            goes_on(ask_path(other, q, key, known.path, byte))
+        }
+        Dimension::Other(_) => goes_on(ask_path(other, q, key, known.path, &[])),
     }
-    let end = one_more(kind, PATH_KIND, path, body);
-    goes_on(ask_path(other, q, key, p, &t[path..end]))
 }
 
-// Goes down to a node of the bytes t, if a search enters it and its strings have room: then they stand behind what is known.
+// Goes down to a node, if a search enters it and its strings have room: then they stand behind what is known. Returns what is known then.
 pub(crate) fn descend(
     q: &Query<'_>,
-    key: &mut [u8],
-    v: usize,
-    p: usize,
-    t: &[u8],
-    path: usize,
-    body: usize,
-    kind: usize,
+    above: Option<Dimension>,
+    key: &mut [u8; SLOT_SIZE],
+    known: Known,
+    node: &Node<'_>,
     common: Common,
-) -> bool
-    requires key_len { (length key.old ≡ slot_size) × (v ≤ value_size) × (p ≤ ended_limit) × (head_size ≤ path) × (path ≤ body) × (body ≤ length t.now) × (kind ≡ 0 → ⊥) }
-    requires in_common { InCommon (asks q.now) kind v p key.old common }
-    ensures { Descended (asks q.now) kind v p t.now path body key.old key.new result }
+) -> Option<Known>
+    requires { InCommon (asks q.now) above known key.old common }
+    ensures { Descended (asks q.now) above known node.now.value.now node.now.path.now key.old key.new result }
 {
-    if admits(q, kind, key, v, p, t, path, body, common) {
-        return enter(key, v, p, t, path, body);
+    if !admits(q, above, key, known, node, common) {
+        return None;
     }
-    false
+    enter(key, known, node)
 }
 
-// Tells whether the key of the suffix in b[..next] is taken, and makes its slot then. The span is that of the values behind the v bytes known.
+// Tells whether the key of a suffix is taken, and makes its slot then. The span is that of the values behind those known. The suffix's value bytes are
+// the first of `tail`: where more follow, eight are read as one.
 pub(crate) fn take_key(
     q: &Query<'_>,
-    key: &mut [u8],
-    v: usize,
-    p: usize,
-    b: &[u8],
-    path: usize,
-    next: usize,
+    key: &mut [u8; SLOT_SIZE],
+    known: Known,
+    suffix: &Suffix<'_>,
+    tail: &[u8],
     span: Span,
 ) -> bool
-    requires { (length key.old ≡ slot_size) × (v ≤ value_size) × (p ≤ ended_limit) × (suffix_size ≤ path) × (path ≤ next) × (next ≤ length b.now) }
-    ensures { Spans (asks q.now) (take v key.old) (value_size - v) span.from span.to → Taken (asks q.now) v p b.now path next key.old key.new result }
+    requires { (length suffix.now.reference.now ≡ reference_size) × (length suffix.now.value.now ≤ length tail.now) × (take (length suffix.now.value.now) tail.now ≡ suffix.now.value.now) }
+    ensures { Spans (asks q.now) (take known.value key.old) (value_size - known.value) span.from span.to → Taken (asks q.now) known suffix.now.value.now suffix.now.path.now suffix.now.reference.now key.old key.new result }
 {
-    let n = path - SUFFIX_SIZE;
-    if v + n != VALUE_SIZE {
+    let n = suffix.value.len();
+    if known.value + n != VALUE_SIZE {
         return false;
     }
-    if p + (next - path) > ENDED_LIMIT {
+    if known.path + suffix.path.len() > ENDED_LIMIT {
         return false;
     }
-    let value = value_with(span, v, &b[SUFFIX_SIZE..], n);
-    if is_match(ask_path(value, q, key, p, &b[path..next])) {
-        return compose(key, v, p, b, path, next);
+    let value = value_with(span, known.value, tail, n);
+    if !is_match(ask_path(value, q, key, known.path, suffix.path)) {
+        return false;
     }
-    false
+    compose(key, known, suffix)
 }

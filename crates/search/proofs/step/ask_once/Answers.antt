@@ -1,48 +1,47 @@
--- The dimension in which the node branches, and the other.
+-- The dimension in which they branch, and the other.
 use native.Mathlib.Omega.{arith}
 use Prim.Native.Nat.{ℕ, ◌+◌, ◌-◌, ◌<◌}
 use mathlib.Core.Path.{◌≡◌, refl, sym, ap, ◌∙◌}
 use lib.ListN.{take, drop}
 use lib.Seq.{length-take-le}
-use borrow.Author.Tests.{eq-eqb, ne_eqb, eqb-true}
-use Rattle.buffer.proofs.Tests.{not_both}
+use borrow.Author.Tests.{eqb-true}
 use Rattle.matcher.specs.Reach.{reach_of}
 use Rattle.rows.specs.Sizes.{value_size, path_at}
 use Rattle.value_range.specs.Spans.{Spans}
 use Rattle.search.specs.Asks.{asks}
 use Rattle.search.proofs.OneByte.{value_byte, path_byte}
+use Rattle.search.proofs.Steps.{apart_none, apart_else}
+use Rattle.std.specs.Prelude.{Some}
 use Rattle.search.proofs.step.ask_once.Goals as goal
 
-pub returns-then-kind-eq-ROOT : goal.returns-then-kind-eq-ROOT
-returns-then-kind-eq-ROOT c =
-    let e = c.if-kind-eq-ROOT.true in
-    record { bytes = λ k. absurd (omega (arith, e, k)); other = λ z f. absurd (z e); single = λ y. not_both y refl }
-
-pub returns-then-kind-eq-VALUE_KIND : goal.returns-then-kind-eq-VALUE_KIND
-returns-then-kind-eq-VALUE_KIND c =
+pub returns-in-Value : goal.returns-in-Value
+returns-in-Value c =
     let a = c.args in
-    let pre = c.requires in
+    let x = a.known in
     let bytes = c.branches-bytes in
-    let one = c.if-kind-eq-VALUE_KIND.true in
-    let path : path_at + a.p - path_at ≡ a.p = omega arith in
-    let spans : a.v < value_size → Spans (asks a.q.now) (take a.v a.key.now) 1 bytes.result.from bytes.result.to =
-    λ short. bytes.ensures a.q.now.pattern.now (omega (arith, length-take-le a.v a.key.now (omega (arith, pre)))) in
+    let is = c.in-Some.is ∙ ap Some c.in-Value.is in
+    let path : path_at + x.path - path_at ≡ x.path = omega arith in
+    let spans : x.value < value_size → Spans (asks a.q.now) (take x.value a.key.now) 1 bytes.result.from bytes.result.to =
+    λ short. bytes.ensures a.q.now.pattern.now (omega (arith, length-take-le x.value a.key.now (omega (arith, x.value_fits)))) in
     record {
       bytes = λ k short. spans short;
-      other = λ z f. rw (eq-eqb a.kind 1 one) (c.reach_from.ensures a.q.now.formed a.q.now.prefix (rw path (f one)) ∙ ap (λ (n : ℕ). reach_of a.q.now.pattern.now (take n (drop path_at a.key.now))) path);
+      path = λ o f. c.reach_from.ensures a.q.now.formed a.q.now.prefix (rw path f) ∙ ap (λ (n : ℕ). reach_of a.q.now.pattern.now (take n (drop path_at a.key.now))) path;
+      value = λ z o. absurd (o is);
       single = λ y.
           let same : bytes.result.to ≡ bytes.result.from = sym (eqb-true bytes.result.from bytes.result.to y) in
-          value_byte a.q.now.pattern.now a.q.now.range.from a.q.now.range.to a.v a.p bytes.result.from a.key.now pre.0 pre.1 (λ short. rw same at (spans short)) a.kind one;
+          value_byte a.q.now.pattern.now a.q.now.range.from a.q.now.range.to x.value x.path bytes.result.from a.key.now (omega arith) x.value_fits (λ short. rw same at (spans short)) a.above is;
     }
 
-pub returns : goal.returns
-returns c =
+pub returns-in_default-dimension : goal.returns-in_default-dimension
+returns-in_default-dimension c =
     let a = c.args in
-    let pre = c.requires in
-    let one = c.if-kind-eq-VALUE_KIND.false in
+    let x = a.known in
+    let is = c.in-Some.is in
+    let apart = apart_else is c.in_default-dimension.not-Value in
     record {
-      bytes = λ k short. absurd (one k);
-      other = λ z f. rw (ne_eqb a.kind 1 one) (c.value_reach.ensures a.q.now.pattern.now);
+      bytes = λ o. absurd (apart o);
+      path = λ o. absurd (apart o);
+      value = λ z o. c.value_reach.ensures a.q.now.pattern.now;
       single = λ y.
-          path_byte a.q.now.pattern.now a.q.now.range.from a.q.now.range.to a.v a.p _ a.key.now pre.0 pre.2 a.q.now.prefix (c.one_leads.ensures a.q.now.pattern.now) y refl a.kind pre.3 one c.if-kind-eq-ROOT.false;
+          path_byte a.q.now.pattern.now a.q.now.range.from a.q.now.range.to x.value x.path _ a.key.now (omega arith) x.path_fits a.q.now.prefix (c.one_leads.ensures a.q.now.pattern.now) y refl a.above (apart_none is) apart;
     }

@@ -13,4 +13,4 @@ returns-then-ruled_out-clause-value c =
     λ f. sym (c.ruled_out.ensures.mismatch a.q.now.prefix c.if-ruled_out.true (region a.key.now path_at a.p) (length_region a.key.now path_at a.p (omega arith)))
 
 pub returns-clause-key_unchanged : goal.returns-clause-key_unchanged
-returns-clause-key_unchanged c = let a = c.args in front_kept a.key.now _ a.s.now a.p c.requires.0 c.requires.1 c.path_with.ensures.key_after
+returns-clause-key_unchanged c = let a = c.args in front_kept a.key.now _ a.s.now a.p (omega arith) c.requires c.path_with.ensures.key_after

@@ -3,4 +3,4 @@ use Rattle.search.proofs.Whole.{trie_searched}
 use Rattle.search.proofs.walk.search_trie.Goals as goal
 
 pub returns : goal.returns
-returns c = trie_searched c.walk.ensures.searched c.walk.ensures.rows_bound.0 c.walk.ensures.rows_bound.1
+returns c = trie_searched c.search_tries.ensures.searched c.search_tries.ensures.rows_bound.0 c.search_tries.ensures.rows_bound.1
