@@ -16,9 +16,9 @@ decreases-search_body l = 2 * l.depth + 1
 abbrev pub decreases-search_tries : goal.decreases-search_tries
 decreases-search_tries l = 2 * l.depth
 
-abbrev pub invariant-loop-node : goal.invariant-loop-node
-invariant-loop-node l = (l.so_far.rows + length l.t ≤ l.fn.found.rows + length l.tries) × (l.so_far.nodes + length l.t ≤ l.fn.found.nodes + length l.tries) × (length l.key ≡ slot_size) × (length l.answer ≡ length l.initial.answer)
+abbrev pub invariant-search_tries-loop-node : goal.invariant-search_tries-loop-node
+invariant-search_tries-loop-node l = (l.so_far.rows + length l.t ≤ l.fn.found.rows + length l.tries) × (l.so_far.nodes + length l.t ≤ l.fn.found.nodes + length l.tries) × (length l.key ≡ slot_size) × (length l.answer ≡ length l.initial.answer)
     × Finding (TriesFound (asks l.q) (above_of l.above) l.depth (known_strings l.known l.initial.key) l.tries) (TriesFound (asks l.q) (above_of l.above) l.depth (known_strings l.known l.initial.key) l.t) l.known.value l.known.path l.room l.fn.found.rows l.fn.found.nodes l.initial.answer l.initial.key l.answer l.key l.so_far.rows l.so_far.nodes
 
-abbrev pub decreases-loop-node : goal.decreases-loop-node
-decreases-loop-node l = length l.t
+abbrev pub decreases-search_tries-loop-node : goal.decreases-search_tries-loop-node
+decreases-search_tries-loop-node l = length l.t
