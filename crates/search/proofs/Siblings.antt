@@ -2,11 +2,10 @@
 use mathlib.Core.Path.{◌≡◌, refl, sym, ap, subst, ◌∙◌}
 use mathlib.Core.Bool.{Bool, true, false, ◌&&◌}
 use mathlib.Core.Logic.{⊎_elim}
-use Prim.Native.Nat.{ℕ, suc, ◌+◌, ◌-◌, ◌≤◌, ◌<◌}
+use Prim.Native.Nat.{ℕ, ◌+◌, ◌-◌}
 use mathlib.Core.List.{List, [], ◌∷◌, ◌++◌, map}
 use native.Mathlib.Omega.{arith}
 use lib.ListN.{length, take, length-append}
-use lib.Dec.{leb}
 use lib.Seq.{length-take-le}
 use borrow.Author.Tests.{le-leb}
 use Rattle.buffer.specs.Lists.{pick}
@@ -74,18 +73,17 @@ pub record OneMore (A : List Key → ℕ → Type 0) (ks : List Key) (e : ℕ) :
   pub is : e ≡ 1 + below
 
 -- what is found of a body by its kind
-of_leaf : (depth : ℕ) {q : Query} {kind : Kind} {k : Strings} {t : List ℕ} {ks : List Key} {e : ℕ} → kind ≡ Leaf → SuffixesFound q k t ks e → BodyFound q kind depth k t ks e
+of_leaf : {q : Query} {kind : Kind} (depth : ℕ) {k : Strings} {t : List ℕ} {ks : List Key} {e : ℕ} → kind ≡ Leaf → SuffixesFound q k t ks e → BodyFound q kind depth k t ks e
 of_leaf depth z s = rw z s
 
-of_inner : (depth : ℕ) {q : Query} {kind : Kind} {d : Dimension} {k : Strings} {t : List ℕ} {ks : List Key} {e : ℕ} → kind ≡ Inner d
+of_inner : {q : Query} {kind : Kind} {d : Dimension} {depth : ℕ} {k : Strings} {t : List ℕ} {ks : List Key} {e : ℕ} → kind ≡ Inner d
     → TriesFound q (below (number_of d)) depth k t ks e → BodyFound q kind depth k t ks e
-of_inner depth z s = rw z s
+of_inner z s = rw z s
 
--- the two strings of a node
-abbrev strings_of : Node → Strings
-strings_of x = x.value.now ∷ x.path.now ∷ []
+abbrev node_strings : Node → Strings
+node_strings x = x.value.now ∷ x.path.now ∷ []
 
--- what is read of tries, is the first
+-- what is read of tries, is the first node
 told : (r : Option Node) (x : Node) (f : Forest) → option_map head_in r ≡ head_of f → r ≡ Some x → Some (head_in x) ≡ head_of f
 told r x f e z = rw z at e
 
@@ -97,7 +95,7 @@ module _ {q : Query} {above : Above} {depth : ℕ} {k : Strings} {t : List ℕ} 
 
   module _ (x : Node) (z : r ≡ Some x) where
     -- the strings have room, and the path known begins one
-    pub tries_node : (ks : List Key) (e : ℕ) → TriesFound q above depth k t ks e → AtNode (join k (strings_of x))
+    pub tries_node : (ks : List Key) (e : ℕ) → TriesFound q above depth k t ks e → AtNode (join k (node_strings x))
     tries_node ks e s =
         let h = told r x s.tries (is s.tries s.regular s.bytes) z in
         ⊎_elim
@@ -107,8 +105,8 @@ module _ {q : Query} {above : Above} {depth : ℕ} {k : Strings} {t : List ℕ} 
         rw w.strings_are (inner_roomy k w.strings (number_of y.0) w.children w.more (rw w.is at s.nodes_fit)).0)
         (kind? x.kind)
 
-    pub tries_in : enters (reaches q) above k (strings_of x) ≡ true → (ks : List Key) (e : ℕ) → TriesFound q above depth k t ks e
-        → Parts (OneMore (BodyFound q x.kind (depth - 1) (join k (strings_of x)) x.body.now)) (Later q above depth k (strings_of x) x.rest.now) ks e
+    pub tries_in : enters (reaches q) above k (node_strings x) ≡ true → (ks : List Key) (e : ℕ) → TriesFound q above depth k t ks e
+        → Parts (OneMore (BodyFound q x.kind (depth - 1) (join k (node_strings x)) x.body.now)) (Later q above depth k (node_strings x) x.rest.now) ks e
     tries_in y ks e s =
         let h = told r x s.tries (is s.tries s.regular s.bytes) z in
         ⊎_elim
@@ -163,7 +161,7 @@ module _ {q : Query} {above : Above} {depth : ℕ} {k : Strings} {t : List ℕ} 
           behind = nodes_entered (reaches q) above k w.more;
           one = record {
             below = nodes_entered (reaches q) (below d) (join k w.strings) w.children;
-            has = of_inner (depth - 1) o.1
+            has = of_inner o.1
                 (rw n record { tries = w.children; regular = w.lower; sound = u.1; high = i.0; nodes_fit = m.1; paths = g.0.0; rises = g.0.1; bytes = w.body_is; is = refl; entered = refl });
             is = refl;
           };
@@ -177,7 +175,7 @@ module _ {q : Query} {above : Above} {depth : ℕ} {k : Strings} {t : List ℕ} 
         })
         (kind? x.kind)
 
-    pub tries_out : enters (reaches q) above k (strings_of x) ≡ false → (ks : List Key) (e : ℕ) → TriesFound q above depth k t ks e
+    pub tries_out : enters (reaches q) above k (node_strings x) ≡ false → (ks : List Key) (e : ℕ) → TriesFound q above depth k t ks e
         → TriesFound q above depth k x.rest.now ks e
     tries_out y ks e s =
         let h = told r x s.tries (is s.tries s.regular s.bytes) z in
@@ -233,32 +231,30 @@ and-true a b e = rw e
 
 -- ---- the turn over siblings
 
--- what is known stays, and so do what a search enters and the path known
-enters_kept : (q : Query) (above : Above) (y : Known) (k k₀ : List ℕ) → known_strings y k ≡ known_strings y k₀ → (s : Strings)
-    → enters (reaches q) above (known_strings y k) s ≡ enters (reaches q) above (known_strings y k₀) s
-enters_kept q above y k k₀ e s = ap (λ (z : Strings). enters (reaches q) above z s) e
-
-first_kept : (y : Known) (k k₀ : List ℕ) (x : Node) → known_strings y k ≡ known_strings y k₀ → AtNode (join (known_strings y k₀) (strings_of x))
-    → FirstBytes (region k path_at y.path ++ x.path.now)
-first_kept y k k₀ x e h =
-    subst FirstBytes (ap (λ (z : Strings). at 1 (join z (strings_of x))) (sym e) ∙ node_path y.value y.path k x.value.now x.path.now) h.1
-
-module _ {Has : List Key → ℕ → Type 0} {q : Query} {above : Option Dimension} {depth : ℕ} {y : Known} {room n c : ℕ} {s₀ k₀ s k t : List ℕ} {m d : ℕ}
+module _ {Has : List Key → ℕ → Type 0} {q : Query} (above : Option Dimension) {depth : ℕ} (y : Known) {room n c : ℕ} {s₀ k₀ s k t : List ℕ} {m d : ℕ}
     (l : Finding Has (TriesFound q (above_of above) depth (known_strings y k₀) t) y.value y.path room n c s₀ k₀ s k m d) {r : Option Node}
     (is : (f : Forest) → Regular 2 f → t ≡ encode f → option_map head_in r ≡ head_of f) (x : Node) (e : r ≡ Some x) where
+  enters_now : enters (reaches q) (above_of above) (known_strings y k) (node_strings x) ≡ enters (reaches q) (above_of above) (known_strings y k₀) (node_strings x)
+  enters_now = ap (λ (z : Strings). enters (reaches q) (above_of above) z (node_strings x)) l.rows.kept
+
+  -- the path known there
+  now_first : AtNode (join (known_strings y k₀) (node_strings x)) → FirstBytes (region k path_at y.path ++ x.path.now)
+  now_first h =
+      subst FirstBytes (ap (λ (z : Strings). at 1 (join z (node_strings x))) (sym l.rows.kept) ∙ node_path y.value y.path k x.value.now x.path.now) h.1
+
   module _ {k₁ : List ℕ} {u : Known} (down : Descended q above y x.value.now x.path.now k k₁ (Some u)) where
     -- the node is entered
-    entered_now : AtNode (join (known_strings y k₀) (strings_of x)) → enters (reaches q) (above_of above) (known_strings y k₀) (strings_of x) ≡ true
-    entered_now h = sym (enters_kept q (above_of above) y k k₀ l.rows.kept (strings_of x)) ∙ and_right (has_room y.value y.path x.value.now x.path.now) _ (sym (down.is (first_kept y k k₀ x l.rows.kept h)))
+    entered_now : AtNode (join (known_strings y k₀) (node_strings x)) → enters (reaches q) (above_of above) (known_strings y k₀) (node_strings x) ≡ true
+    entered_now h = sym enters_now ∙ and_right (has_room y.value y.path x.value.now x.path.now) _ (sym (down.is (now_first h)))
 
     -- what is found below it
     abbrev Lower : (s' k' : List ℕ) (m' d' : ℕ) → Type 0
     Lower s' k' m' d' = Searched (BodyFound q x.kind (depth - 1) (known_strings u k₁) x.body.now) u.value u.path room m (d + 1) s k₁ s' k' m' d'
 
     siblings_later : {s' k' : List ℕ} {m' d' : ℕ} → Lower s' k' m' d'
-        → Finding Has (Later q (above_of above) depth (known_strings y k₀) (strings_of x) x.rest.now) y.value y.path room n c s₀ k₀ s' k' m' d'
+        → Finding Has (Later q (above_of above) depth (known_strings y k₀) (node_strings x) x.rest.now) y.value y.path room n c s₀ k₀ s' k' m' d'
     siblings_later {k' = k'} i =
-        let below = down.deeper.joins ∙ ap (λ (z : Strings). join z (strings_of x)) l.rows.kept in
+        let below = down.deeper.joins ∙ ap (λ (z : Strings). join z (node_strings x)) l.rows.kept in
         finding_on l
         (record {
           rows = record {
@@ -283,7 +279,7 @@ module _ {Has : List Key → ℕ → Type 0} {q : Query} {above : Option Dimensi
 
     -- and no other will be
     pub siblings_done : {s' k' : List ℕ} {m' d' : ℕ} → Lower s' k' m' d' → OneByte q (above_of above) (known_strings y k₀) → Searched Has y.value y.path room n c s₀ k₀ s' k' m' d'
-    siblings_done i one = finding_end (siblings_later i) (none_later one (strings_of x))
+    siblings_done i one = finding_end (siblings_later i) (none_later one (node_strings x))
 
   -- the node is passed: its strings have room, so a search does not enter it
   pub siblings_past : {k₁ : List ℕ} → Descended q above y x.value.now x.path.now k k₁ None → length k₀ ≡ slot_size
@@ -301,24 +297,24 @@ module _ {Has : List Key → ℕ → Type 0} {q : Query} {above : Option Dimensi
         sum = omega arith;
       })
     where
-      out : (ks : List Key) (a : ℕ) → TriesFound q (above_of above) depth (known_strings y k₀) t ks a → enters (reaches q) (above_of above) (known_strings y k₀) (strings_of x) ≡ false
+      out : (ks : List Key) (a : ℕ) → TriesFound q (above_of above) depth (known_strings y k₀) t ks a → enters (reaches q) (above_of above) (known_strings y k₀) (node_strings x) ≡ false
       out ks a h =
           let node = tries_node is x e ks a h in
           let room = short_room k₀ x.value.now x.path.now y long node.0 in
-          sym (enters_kept q (above_of above) y k k₀ l.rows.kept (strings_of x)) ∙ sym (and-true (has_room y.value y.path x.value.now x.path.now) _ room) ∙ sym (down.is (first_kept y k k₀ x l.rows.kept node))
+          sym enters_now ∙ sym (and-true (has_room y.value y.path x.value.now x.path.now) _ room) ∙ sym (down.is (now_first node))
 
 -- ---- a body
 
 -- of a leaf: its suffixes
-pub body_suffixes : (depth : ℕ) {q : Query} {kind : Kind} {v p room n c r : ℕ} {k₀ : Strings} {t s k s' k' : List ℕ} → kind ≡ Leaf
+pub body_suffixes : {q : Query} {kind : Kind} (depth : ℕ) {v p room n c r : ℕ} {k₀ : Strings} {t s k s' k' : List ℕ} → kind ≡ Leaf
     → Searched (SuffixesFound q k₀ t) v p room n 0 s k s' k' r 0 → Searched (BodyFound q kind depth k₀ t) v p room n c s k s' k' r c
 body_suffixes depth z i =
     record { rows = i.rows; nodes = i.nodes; count = omega (arith, i.count); are = λ ks e b. i.are ks e (rw z at b) }
 
 -- of an inner node: its children
-pub body_tries : (depth : ℕ) {q : Query} {kind : Kind} {dimension : Dimension} {v p room n c r d : ℕ} {k₀ : Strings} {t s k s' k' : List ℕ} → kind ≡ Inner dimension
+pub body_tries : {q : Query} {kind : Kind} {dimension : Dimension} {depth v p room n c r d : ℕ} {k₀ : Strings} {t s k s' k' : List ℕ} → kind ≡ Inner dimension
     → Searched (TriesFound q (below (number_of dimension)) depth k₀ t) v p room n c s k s' k' r d → Searched (BodyFound q kind depth k₀ t) v p room n c s k s' k' r d
-body_tries depth z i = rw z i
+body_tries z i = rw z i
 
 -- tries of which no node is left to enter
 pub tries_low : {q : Query} {above : Above} {depth v p room n c : ℕ} {k₀ : Strings} {t s k : List ℕ} → depth ≡ 0

@@ -5,7 +5,6 @@ use Prim.Native.Nat.{ℕ, suc, ◌+◌, ◌-◌, ◌≤◌, min}
 use mathlib.Core.List.{List, [], ◌∷◌, ◌++◌, append-nil, append_assoc}
 use native.Mathlib.Omega.{arith}
 use lib.ListN.{length, take, drop, length-append}
-use lib.Dec.{leb}
 use lib.Seq.{take-take, take_at, drop_at}
 use borrow.Author.Tests.{le-leb}
 use Rattle.std.specs.Prelude.{Option, Some, None, MatchOption}

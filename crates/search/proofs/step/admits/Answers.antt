@@ -1,13 +1,11 @@
 -- The root is entered; a child by the answers with the branching byte added.
 use native.Mathlib.Omega.{arith}
-use mathlib.Core.Path.{◌≡◌, sym, ap, ap₂, ◌∙◌}
+use mathlib.Core.Path.{ap, ap₂, ◌∙◌}
 use mathlib.Core.Bool.{◌&&◌}
 use mathlib.Core.List.{[], ◌++◌}
-use Prim.Native.Nat.{ℕ, min}
-use lib.ListN.{length, take}
+use lib.ListN.{take}
 use lib.Seq.{length-take-le}
 use Rattle.buffer.specs.Splice.{region}
-use Rattle.matcher.specs.Continued.{FirstBytes}
 use Rattle.matcher.specs.Reach.{reach_of, goes_on}
 use Rattle.matcher.proofs.Firsts.{first_before}
 use Rattle.matcher.specs.declared.reach.Answer.{Answer}

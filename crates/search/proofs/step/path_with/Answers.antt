@@ -1,5 +1,5 @@
 -- The bytes are laid behind the known ones, and the path asked on the buffer.
-use mathlib.Core.Path.{ap, refl, ◌∙◌}
+use mathlib.Core.Path.{ap, ◌∙◌}
 use native.Mathlib.Omega.{arith}
 use Rattle.matcher.specs.Reach.{reach_of}
 use Rattle.search.proofs.Steps.{path_more}

@@ -11,7 +11,7 @@ pub search_body-returns-in-Leaf-clause-searched : goal.search_body-returns-in-Le
 search_body-returns-in-Leaf-clause-searched t c = body_suffixes c.args.depth c.in-Leaf.is c.suffixes.ensures.searched
 
 pub search_body-returns-in-Inner-clause-searched : goal.search_body-returns-in-Inner-clause-searched
-search_body-returns-in-Inner-clause-searched t c = body_tries c.args.depth c.in-Inner.is c.search_tries.ensures.searched
+search_body-returns-in-Inner-clause-searched t c = body_tries c.in-Inner.is c.search_tries.ensures.searched
 
 pub search_tries-returns-then-depth-eq0-clause-searched : goal.search_tries-returns-then-depth-eq0-clause-searched
 search_tries-returns-then-depth-eq0-clause-searched t c = tries_low c.if-depth-eq0.true
@@ -24,7 +24,7 @@ search_tries-descend-requires t c = common_kept c.ask_once-common.ensures c.loop
 
 pub search_tries-returns-then-common-clause-searched : goal.search_tries-returns-then-common-clause-searched
 search_tries-returns-then-common-clause-searched t c =
-    siblings_done c.loop-node.invariant.4 c.first_node.ensures.value c.in-Some.node c.in-Some.is (rw c.in-Some-descend.is at c.descend.ensures)
+    siblings_done c.args.above c.args.known c.loop-node.invariant.4 c.first_node.ensures.value c.in-Some.node c.in-Some.is (rw c.in-Some-descend.is at c.descend.ensures)
     c.search_body-so_far.ensures.searched (c.ask_once-common.ensures.single c.if-common.true)
 
 pub search_tries-loop-node-preserved : goal.search_tries-loop-node-preserved
@@ -42,7 +42,7 @@ search_tries-loop-node-preserved t c =
             rw w.so_far-is (omega (arith, inside, w.search_body-so_far.ensures.rows_bound.1)),
             rw w.key-is w.search_body-so_far.array_long,
             rw w.answer-is (w.search_body-so_far.auto.answer ∙ i.3),
-            rw (w.key-is, w.answer-is, w.so_far-is) (siblings_in i.4 is y e down w.search_body-so_far.ensures.searched),
+            rw (w.key-is, w.answer-is, w.so_far-is) (siblings_in c.args.above c.args.known i.4 is y e down w.search_body-so_far.ensures.searched),
           )
       | search_tries-in_default-descend w ↦
           let down = rw w.in_default-descend.is at c.descend.ensures in (
@@ -50,7 +50,7 @@ search_tries-loop-node-preserved t c =
             rw w.so_far-is (omega (arith, inside)),
             rw w.key-is c.descend.array_long,
             rw w.answer-is i.3,
-            rw (w.key-is, w.answer-is, w.so_far-is) (siblings_past i.4 is y e down c.told-key),
+            rw (w.key-is, w.answer-is, w.so_far-is) (siblings_past c.args.above c.args.known i.4 is y e down c.told-key),
           )
     ]
 

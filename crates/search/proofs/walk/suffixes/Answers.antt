@@ -2,10 +2,10 @@
 use borrow.Author.Tests.{ltb-true}
 use native.Mathlib.Omega.{arith}
 use Prim.Native.Nat.{ℕ, ◌+◌, ◌-◌}
-use mathlib.Core.Path.{◌≡◌, refl, sym, ap, ◌∙◌}
+use mathlib.Core.Path.{◌≡◌, refl, sym, ◌∙◌}
 use mathlib.Core.Bool.{true, ◌&&◌}
 use mathlib.Core.List.{List}
-use lib.ListN.{length, take, drop}
+use lib.ListN.{length, take}
 use lib.Seq.{length-take-le}
 use lib.Dec.{eqb, ltb}
 use Rattle.buffer.specs.Numbers.{number}
@@ -14,8 +14,6 @@ use Rattle.buffer.proofs.Tests.{and_right}
 use Rattle.rows.specs.Sizes.{value_size, row_size}
 use Rattle.entries.specs.Slots.{slot_size}
 use Rattle.trie_theory.specs.Strings.{at}
-use Rattle.trie_read.specs.Suffixes.{SuffixStands}
-use Rattle.trie_read.specs.declared.suffixes.Suffix.{Suffix}
 use Rattle.gather.specs.Walks.{known_strings}
 use Rattle.search.proofs.Steps.{span_kept, known_span, known_long, tail_value}
 use Rattle.search.proofs.Finding.{finding_from, finding_end, suffixes_end, suffixes_above, suffixes_put, suffixes_pass}
