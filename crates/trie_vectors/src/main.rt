@@ -198,11 +198,13 @@ fn read_line(console: &mut Console, s: &mut [u8], used: usize, asks: bool, line:
     requires { (used ≤ length s.old) × (length s.old < four_byte_limit) }
     ensures { result ≤ length s.new }
 {
-    let Some(Command::Add {
-        value,
-        reference,
-        path,
-    }) = logline::reader::parse(line)
+    let Some(
+        Command::Add {
+            value,
+            reference,
+            path,
+        },
+    ) = logline::reader::parse(line)
     else {
         console.print(b"misread\n");
         return used;

@@ -33,8 +33,8 @@ size_is at start next a b nv np body v p nv' np' v' p' e f g h k l = omega arith
 placed : (c : After-put_parent) → c.if-c.place ≡ cond c.cut_for-c.result.first (c.args.at + 7 + (c.cut_for-c.result.value + c.cut_for-c.result.path)) (c.args.next + 7)
 placed c =
     elim c.if-c.branch [
-      then-c w ↦ rw w.if-c.true w.place-is
-    | else-c w ↦ rw w.if-c.false w.place-is
+      | then-c w ↦ rw w.if-c.true w.place-is
+      | else-c w ↦ rw w.if-c.false w.place-is
     ]
 
 pub insert_leaf-requires : goal.insert_leaf-requires
