@@ -3,6 +3,7 @@
 
 use rows::sizes::{NODE_LIMIT, REFERENCE_SIZE};
 use trie_read::sizes::{HEAD_SIZE, LEAF_SIZE};
+use trie_write::key::Key;
 
 // Adds a key to the trie in the first `used` bytes, and returns by how many bytes it is longer.
 #[unsafe(no_mangle)]
@@ -31,5 +32,10 @@ pub extern "C" fn bench_add(
     if s.len() - used < HEAD_SIZE + LEAF_SIZE + value.len() + path.len() {
         return 0;
     }
-    trie_add::add::add(s, 0, used, used, None, NODE_LIMIT, value, path, reference)
+    let key = Key {
+        value,
+        path,
+        reference,
+    };
+    trie_add::add::add(s, 0, used, used, None, NODE_LIMIT, &key)
 }

@@ -37,8 +37,9 @@ use Rattle.store.proofs.Places.{good_regular}
 use Rattle.store_add.specs.Small.{SmallGrown}
 use Rattle.store_overflow.specs.Overflow.{Overflowed}
 use Rattle.store_add.specs.Placed.{Placed}
-use Rattle.store_add.specs.Spelled.{spelled, Spells}
-use Rattle.store_add.specs.declared.key.Key as Code
+use Rattle.store_add.specs.Spelled.{Spells}
+use Rattle.trie_write.specs.Keys.{spelled}
+use Rattle.trie_write.specs.declared.key.Key as Code
 use Rattle.store_add.proofs.Held.{small_inside, small_room, small_image}
 
 -- the bytes that the addition of an entry takes at most

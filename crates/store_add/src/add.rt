@@ -7,7 +7,6 @@ ghost use Rattle.store_add.specs.Ready.{Ready};
 ghost use Rattle.store_add.specs.Said.{added};
 
 use crate::check::check;
-use crate::key::Key;
 use crate::lookup::has_entry;
 use crate::place::put_entry;
 use buffer::moves::copy_from;
@@ -17,6 +16,7 @@ use store::front::Front;
 use store::opened::Store;
 use store::refusal::Refusal;
 use store_overflow::entry::Entry;
+use trie_write::key::Key;
 
 // A path with its end byte.
 const ENDED_LIMIT: usize = PATH_LIMIT + 1;

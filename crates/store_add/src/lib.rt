@@ -3,7 +3,6 @@
 
 pub mod add;
 mod check;
-mod key;
 mod lookup;
 mod place;
 mod small;

@@ -1,10 +1,10 @@
 // Looking an entry up in each trie of a store.
 ghost use Rattle.store_add.specs.Placed.{LookedUp};
-ghost use Rattle.store_add.specs.Spelled.{spelled};
+ghost use Rattle.trie_write.specs.Keys.{spelled};
 
-use crate::key::Key;
 use store::opened::Store;
 use trie_read::lookup::contains;
+use trie_write::key::Key;
 
 // Does the store have the entry with this key?
 pub(crate) fn has_entry(store: &Store<'_>, key: &Key<'_>) -> bool

@@ -4,13 +4,13 @@ ghost use Rattle.store_add.specs.Placed.{Placed, Entered};
 ghost use Rattle.store_add.specs.Ready.{Ready};
 ghost use Rattle.store_add.specs.Spelled.{Spells};
 
-use crate::key::Key;
 use crate::small::add_small;
 use buffer::numbers::put32;
 use store::front::{Front, HELD_AT};
 use store::part::trie_range;
 use store_overflow::entry::Entry;
 use store_overflow::overflow::overflow;
+use trie_write::key::Key;
 
 // The small trie takes the entry in, until that brings it to M entries: then a level does.
 fn place(store: &mut [u8], front: Front, entry: &Entry<'_>, key: &Key<'_>)

@@ -1,23 +1,21 @@
 // The addition to the small trie, in its region.
-ghost use Rattle.std.specs.Prelude.{◌≡◌, ◌+◌, ◌*◌, ◌≤◌, ◌<◌, length};
-ghost use Rattle.buffer.specs.Sizes.{reference_size};
+ghost use Rattle.std.specs.Prelude.{◌+◌, ◌*◌, ◌≤◌, length};
 ghost use Rattle.book.specs.Front.{front_room, entry_room};
 ghost use Rattle.store_add.specs.Small.{SmallGrown};
-ghost use Rattle.store_add.specs.Spelled.{spelled};
+ghost use Rattle.trie_write.specs.Keys.{spelled};
 
-use crate::key::Key;
 use rows::sizes::NODE_LIMIT;
 use store::front::{ENTRY_ROOM, FRONT_ROOM, Front};
 use trie_add::add::add;
 use trie_read::sizes::{HEAD_SIZE, LEAF_SIZE};
+use trie_write::key::Key;
 
 // The most bytes that an addition takes beside those of the key.
 const GROWTH_SIZE: usize = HEAD_SIZE + LEAF_SIZE;
 
 // Adds a key to the small trie, which has `used` bytes. Where there is no room for it, which no store of ours comes to, nothing is changed.
 pub(crate) fn add_small(store: &mut [u8], front: Front, used: usize, key: &Key<'_>)
-    requires region { (front_room + entry_room * front.m ≤ length store.old) × (used ≤ entry_room * front.m) }
-    requires strings { (length key.now.value.now < 256) × (length key.now.path.now < 256) × (length key.now.reference.now ≡ reference_size) }
+    requires { (front_room + entry_room * front.m ≤ length store.old) × (used ≤ entry_room * front.m) }
     ensures { SmallGrown front.m used (spelled key.now) store.old store.new }
 {
     let room = ENTRY_ROOM * front.m;
@@ -30,9 +28,7 @@ pub(crate) fn add_small(store: &mut [u8], front: Front, used: usize, key: &Key<'
             used,
             None,
             NODE_LIMIT,
-            key.value,
-            key.path,
-            key.reference,
+            key,
         );
     }
 }

@@ -1,5 +1,5 @@
 -- Where a key belongs among tries side by side, and what its addition then makes of their bytes. Assumes nothing: these are definitions.
-use Rattle.std.specs.Prelude.{ℕ, ◌+◌, ◌≤◌, ◌<◌, ◌≡◌, true, List, [], ◌++◌, length, drop, Option, Some, Result, Ok, Err}
+use Rattle.std.specs.Prelude.{ℕ, ◌+◌, ◌≤◌, ◌≡◌, true, List, [], ◌++◌, length, drop, Option, Some, Result, Ok, Err}
 use Rattle.trie_theory.specs.Forest.{Strings, Key, Forest, none, leaf, inner}
 use Rattle.trie_theory.specs.SmallTrie.{meets, new_leaf, added}
 use Rattle.trie_theory.specs.Sound.{Ascending}
@@ -43,12 +43,12 @@ pub record Here (t : List ℕ) (above : Option Dimension) (k : Strings) (f : For
   pub leads : meets (above_of above) (top passed.over) k ≡ true
 
 abbrev pub Found : List ℕ → Option Dimension → Strings → Forest → Result Place Malformed → Type 0
-Found t above k f (Ok (Node at kind path body next)) = Here t above k f at kind path body next
+Found t above k f (Ok (Node p)) = Here t above k f p.at p.kind p.path p.body p.next
 Found t above k f (Ok (Gap at)) = Passed t above k f at (λ g x. new_leaf x g)
 Found t above k f (Err e) = ⊥
 
--- the places lie in n bytes, in their sequence, and lengths of strings are bytes
+-- the places lie in n bytes; those of a node are in their sequence, and the lengths of its strings are bytes, by their type
 abbrev pub Fits : Result Place Malformed → ℕ → Type 0
-Fits (Ok (Node at kind path body next)) n = (at + head_size ≤ path) × (path ≤ body) × (body ≤ next) × (next ≤ n) × (path < at + head_size + 256) × (body < path + 256)
+Fits (Ok (Node p)) n = p.next ≤ n
 Fits (Ok (Gap at)) n = at ≤ n
 Fits (Err e) n = Unit {0}

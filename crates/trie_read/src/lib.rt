@@ -6,6 +6,7 @@
 pub mod head;
 pub mod kind;
 pub mod lookup;
+pub mod node_place;
 pub mod place;
 pub mod sizes;
 pub mod strings;

@@ -7,21 +7,15 @@ ghost use Rattle.trie_read.specs.Shape.{above_of};
 ghost use Rattle.trie_read.specs.Places.{Found, Fits};
 
 use crate::head::{Malformed, read_head};
-use crate::kind::{Dimension, Kind};
+use crate::kind::Dimension;
+use crate::node_place::NodePlace;
 use crate::sizes::HEAD_SIZE;
 use crate::strings::branch_byte;
 
-// Places in the bytes of the tries, which an addition writes: a node begins at `at`, its value string stands in at + HEAD_SIZE..path, its path string in
-// path..body, its body in body..next; a gap is before what stands there.
+// In the bytes of the tries, which an addition writes; a gap is before what stands there.
 #[derive(Clone, Copy, Debug)]
 pub enum Place {
-    Node {
-        at: usize,
-        kind: Kind,
-        path: usize,
-        body: usize,
-        next: usize,
-    },
+    Node(NodePlace),
     Gap(usize),
 }
 
@@ -41,15 +35,15 @@ pub fn find(
         let at = tries.len() - t.len();
         let own = branch_byte(above, node.value, node.path);
         if own == byte {
-            let start = at + HEAD_SIZE + node.value.len();
-            let body = start + node.path.len();
-            return Ok(Place::Node {
+            let path = at + HEAD_SIZE + node.value.len();
+            let body = path + node.path.len();
+            return Ok(Place::Node(NodePlace {
                 at,
                 kind: node.kind,
-                path: start,
+                path,
                 body,
                 next: body + node.body.len(),
-            });
+            }));
         }
         if byte < own {
             return Ok(Place::Gap(at));

@@ -9,18 +9,18 @@
 // A node's line has its kind, its value string in hex and its path string; the suffixes of a leaf, with their references, stand below it.
 #![tactic(auto)]
 
-ghost use Rattle.std.specs.Prelude.{◌≡◌, ◌+◌, ◌≤◌, ◌<◌, length};
+ghost use Rattle.std.specs.Prelude.{◌+◌, ◌≤◌, ◌<◌, length};
 ghost use Rattle.buffer.specs.Sizes.{four_byte_limit};
-ghost use Rattle.rows.specs.Sizes.{reference_size};
 
 use console::Console;
 use logline::command::Command;
-use rows::sizes::{NODE_LIMIT, PATH_LIMIT, VALUE_SIZE};
+use rows::sizes::{NODE_LIMIT, PATH_LIMIT, REFERENCE_SIZE, VALUE_SIZE};
 use std::io;
 use trie_read::head::{Malformed, Node, read_head};
 use trie_read::kind::{Dimension, Kind};
 use trie_read::sizes::{HEAD_SIZE, LEAF_SIZE};
 use trie_read::suffixes::{Suffix, read_suffix};
+use trie_write::key::Key;
 
 const INPUT_SIZE: usize = 262144;
 
@@ -124,139 +124,115 @@ fn draw(console: &mut Console, t: &[u8], indent: usize)
     draw(console, node.rest, indent);
 }
 
-// Draws the trie, says how many bytes it has, and clears them.
-fn end_set(console: &mut Console, s: &mut [u8], used: usize)
-    requires { (used ≤ length s.old) × (length s.old < four_byte_limit) }
-{
-    console.print_decimal(used as u64);
-    console.print(b" bytes\n");
-    draw(console, &s[0..used], 0);
-    buffer::moves::clear(s, 0, used);
-}
-
-fn ask(console: &mut Console, s: &[u8], used: usize, value: &[u8], path: &[u8], reference: &[u8])
-    requires { used ≤ length s.now }
-{
-    if trie_read::lookup::contains(&s[0..used], value, path, reference) {
-        console.print(b"1\n");
-    } else {
-        console.print(b"0\n");
-    }
-}
-
-// Adds a key to the trie in the first `used` bytes and answers how many it has now.
-fn grow(
-    console: &mut Console,
-    s: &mut [u8],
-    used: usize,
-    value: &[u8],
-    path: &[u8],
-    reference: &[u8],
-) -> usize
-    requires used_in_bounds { (used ≤ length s.old) × (length s.old < four_byte_limit) }
-    requires value_len_bound { (length value.now < 256) × (length path.now < 256) × (length reference.now ≡ reference_size) }
-    ensures { result ≤ length s.new }
-{
-    if s.len() - used < GROWTH + value.len() + path.len() {
-        console.print(b"full\n");
-        return used;
-    }
-    let n = trie_add::add::add(s, 0, used, used, None, NODE_LIMIT, value, path, reference);
-    used + n
-}
-
-// An entry as a key: its value in bytes, its path with the end byte.
-fn apply(
-    console: &mut Console,
-    s: &mut [u8],
-    used: usize,
-    asks: bool,
-    value: u64,
-    path: &[u8],
-    reference: &[u8],
-) -> usize
-    requires { (used ≤ length s.old) × (length s.old < four_byte_limit) × (length reference.now ≡ reference_size) }
-    ensures { result ≤ length s.new }
-{
-    if PATH_LIMIT < path.len() {
-        console.print(b"path over 200\n");
-        return used;
-    }
-    let mut v = [0u8; VALUE_SIZE];
-    buffer::numbers::put64(&mut v, 0, value);
-    let mut p = [0u8; PATH_LIMIT + 1];
-    buffer::moves::copy_from(&mut p, 0, path);
-    let end = path.len() + 1;
-    if asks {
-        ask(console, s, used, &v, &p[0..end], reference);
-        return used;
-    }
-    grow(console, s, used, &v, &p[0..end], reference)
-}
-
-fn read_line(console: &mut Console, s: &mut [u8], used: usize, asks: bool, line: &[u8]) -> usize
-    requires { (used ≤ length s.old) × (length s.old < four_byte_limit) }
-    ensures { result ≤ length s.new }
-{
-    let Some(
-        Command::Add {
-            value,
-            reference,
-            path,
-        },
-    ) = logline::reader::parse(line)
-    else {
-        console.print(b"misread\n");
-        return used;
-    };
-    apply(console, s, used, asks, value, path, &reference)
-}
-
 fn print_title(console: &mut Console, line: &[u8]) {
     console.print(line);
     console.print(b"\n");
 }
 
-fn step(console: &mut Console, s: &mut [u8], used: usize, line: &[u8]) -> usize
-    requires { (used ≤ length s.old) × (length s.old < four_byte_limit) }
-    ensures { result ≤ length s.new }
-{
-    if line.len() == 0 {
-        end_set(console, s, used);
-        return 0;
-    }
-    let mark = line[0];
-    if mark == b'#' {
-        print_title(console, line);
-        return used;
-    }
-    if mark == b'?' {
-        return read_line(console, s, used, true, &line[1..]);
-    }
-    read_line(console, s, used, false, line)
+// A trie, and how many bytes it has.
+#[derive(Drop)]
+struct Trie {
+    bytes: [u8; REGION_SIZE],
+    used: usize,
+    ghost fits: { used ≤ 65536 },
 }
 
-// Where the line that begins at `from` ends.
-fn line_end(text: &[u8], from: usize) -> usize
-    requires { from ≤ length text.now }
-    ensures { (from ≤ result) × (result ≤ length text.now) }
-{
-    let rest = &text[from..];
-    from + rest.iter().position(|b| *b == b'\n').unwrap_or(rest.len())
-}
+impl Trie {
+    fn new() -> Trie {
+        Trie {
+            bytes: [0u8; REGION_SIZE],
+            used: 0,
+        }
+    }
 
-fn run(console: &mut Console, s: &mut [u8], text: &[u8])
-    requires { length s.old < four_byte_limit }
-{
-    let mut used: usize = 0;
-    let mut at: usize = 0;
-    while at < text.len() {
-        let end = line_end(text, at);
-        used = step(console, s, used, &text[at..end]);
-        if end == text.len() {
+    // Draws the trie, says how many bytes it has, and clears them.
+    fn end(&mut self, console: &mut Console) {
+        console.print_decimal(self.used as u64);
+        console.print(b" bytes\n");
+        draw(console, &self.bytes[..self.used], 0);
+        buffer::moves::clear(&mut self.bytes, 0, self.used);
+        self.used = 0;
+    }
+
+    fn ask(&self, console: &mut Console, key: &Key<'_>) {
+        let trie = &self.bytes[..self.used];
+        if trie_read::lookup::contains(trie, key.value, key.path, key.reference) {
+            console.print(b"1\n");
+        } else {
+            console.print(b"0\n");
+        }
+    }
+
+    fn add(&mut self, console: &mut Console, key: &Key<'_>) {
+        let used = self.used;
+        if REGION_SIZE - used < GROWTH + key.size() {
+            console.print(b"full\n");
             return;
         }
-        at = end + 1;
+        self.used += trie_add::add::add(&mut self.bytes, 0, used, used, None, NODE_LIMIT, key);
+    }
+
+    // An entry as a key: its value in bytes, its path with the end byte.
+    fn apply(
+        &mut self,
+        console: &mut Console,
+        asks: bool,
+        value: u64,
+        path: &[u8],
+        reference: &[u8; REFERENCE_SIZE],
+    ) {
+        if PATH_LIMIT < path.len() {
+            console.print(b"path over 200\n");
+            return;
+        }
+        let mut v = [0u8; VALUE_SIZE];
+        buffer::numbers::put64(&mut v, 0, value);
+        let mut p = [0u8; PATH_LIMIT + 1];
+        buffer::moves::copy_from(&mut p, 0, path);
+        let key = Key {
+            value: &v,
+            path: &p[..path.len() + 1],
+            reference,
+        };
+        if asks {
+            self.ask(console, &key);
+        } else {
+            self.add(console, &key);
+        }
+    }
+
+    fn read_line(&mut self, console: &mut Console, asks: bool, line: &[u8]) {
+        let Some(
+            Command::Add {
+                value,
+                reference,
+                path,
+            },
+        ) = logline::reader::parse(line)
+        else {
+            console.print(b"misread\n");
+            return;
+        };
+        self.apply(console, asks, value, path, &reference);
+    }
+
+    fn step(&mut self, console: &mut Console, line: &[u8]) {
+        let Some(mark) = line.first() else {
+            self.end(console);
+            return;
+        };
+        match *mark {
+            b'#' => print_title(console, line),
+            b'?' => self.read_line(console, true, &line[1..]),
+            _ => self.read_line(console, false, line),
+        }
+    }
+}
+
+fn run(console: &mut Console, text: &[u8]) {
+    let mut trie = Trie::new();
+    for line in text.split_inclusive(|b| *b == b'\n') {
+        trie.step(console, line.strip_suffix(b"\n").unwrap_or(line));
     }
 }
 
@@ -264,7 +240,6 @@ fn main(rt: HostRuntime) -> io::Result<()> {
     let mut console = Console::new(rt.stdin(), rt.stdout());
     let mut text = [0u8; INPUT_SIZE];
     let n = console.read_full(&mut text);
-    let mut s = [0u8; REGION_SIZE];
-    run(&mut console, &mut s, &text[..n]);
+    run(&mut console, &text[..n]);
     console.finish()
 }

@@ -1,52 +1,71 @@
-// Insertions: what stands behind the place moves on, up to `used`, and the new bytes go into the room. Each returns how many they are.
-ghost use Rattle.std.specs.Prelude.{◌≡◌, ◌+◌, ◌-◌, ◌≤◌, ◌<◌, ◌++◌, length};
-ghost use Rattle.buffer.specs.Sizes.{reference_size};
+// Insertions: what stands behind the place moves on, up to `used`, and the new bytes go into the room.
+ghost use Rattle.std.specs.Prelude.{◌≡◌, ℕ, List, ◌+◌, ◌-◌, ◌≤◌, ◌++◌, length};
 ghost use Rattle.buffer.specs.Splice.{splice, region};
-ghost use Rattle.trie_theory.specs.Forest.{none};
+ghost use Rattle.trie_theory.specs.Forest.{none, Key as TrieKey};
 ghost use Rattle.trie_theory.specs.SmallTrie.{new_leaf};
 ghost use Rattle.trie_theory.specs.Encode.{encode, suffix_bytes};
 ghost use Rattle.trie_read.specs.Sizes.{suffix_size, leaf_size};
-ghost use Rattle.trie_read.specs.Shape.{key_of};
+ghost use Rattle.trie_write.specs.Keys.{spelled};
 
+use crate::key::Key;
 use crate::write::{put_leaf, put_suffix};
 use buffer::moves::{copy_from, move_within};
 use trie_read::sizes::{LEAF_SIZE, SUFFIX_SIZE};
 
-// A new leaf with all bytes of the key.
-pub fn insert_leaf(
-    s: &mut [u8],
-    at: usize,
-    used: usize,
-    value: &[u8],
-    path: &[u8],
-    reference: &[u8],
-) -> usize
-    requires { (at ≤ used) × (used + leaf_size + length value.now + length path.now ≤ length s.old) × (length value.now < 256) × (length path.now < 256) × (length reference.now ≡ reference_size) }
-    ensures value { result ≡ leaf_size + length value.now + length path.now }
-    ensures s_after { s.new ≡ splice s.old at (encode (new_leaf (key_of value.now path.now reference.now) none) ++ region s.old at (used - at)) }
-{
-    let n = LEAF_SIZE + value.len() + path.len();
-    move_within(s, at, at + n, used - at);
-    put_leaf(s, at, value, path, reference);
-    n
+// What can be inserted for a key.
+pub trait Part {
+    ghost SIZE: { ℕ };
+
+    ghost bytes: { TrieKey → List ℕ };
+
+    // Its bytes beside those of the key's strings.
+    const SIZE: usize;
+
+    fn put(s: &mut [u8], at: usize, key: &Key<'_>)
+        requires { at + SIZE + length key.now.value.now + length key.now.path.now ≤ length s.old }
+        ensures s_after { s.new ≡ splice s.old at (bytes (spelled key.now)) }
+        ensures long { length (bytes (spelled key.now)) ≡ SIZE + length key.now.value.now + length key.now.path.now };
+}
+
+// A leaf with all bytes of the key.
+pub struct NewLeaf;
+
+impl Part for NewLeaf {
+    ghost SIZE = { leaf_size };
+
+    ghost bytes = { λ x. encode (new_leaf x none) };
+
+    const SIZE: usize = LEAF_SIZE;
+
+    fn put(s: &mut [u8], at: usize, key: &Key<'_>) {
+        put_leaf(s, at, key);
+    }
 }
 
 // A suffix more.
-pub fn insert_suffix(
-    s: &mut [u8],
-    at: usize,
-    used: usize,
-    value: &[u8],
-    path: &[u8],
-    reference: &[u8],
-) -> usize
-    requires { (at ≤ used) × (used + suffix_size + length value.now + length path.now ≤ length s.old) × (length value.now < 256) × (length path.now < 256) × (length reference.now ≡ reference_size) }
-    ensures value { result ≡ suffix_size + length value.now + length path.now }
-    ensures s_after { s.new ≡ splice s.old at (suffix_bytes (key_of value.now path.now reference.now) ++ region s.old at (used - at)) }
+pub struct NewSuffix;
+
+impl Part for NewSuffix {
+    ghost SIZE = { suffix_size };
+
+    ghost bytes = { suffix_bytes };
+
+    const SIZE: usize = SUFFIX_SIZE;
+
+    fn put(s: &mut [u8], at: usize, key: &Key<'_>) {
+        put_suffix(s, at, key.value, key.path, key.reference);
+    }
+}
+
+// Inserts it, and returns how many bytes it has.
+pub fn insert<P: Part>(s: &mut [u8], at: usize, used: usize, key: &Key<'_>) -> usize
+    requires { (at ≤ used) × (used + P.SIZE + length key.now.value.now + length key.now.path.now ≤ length s.old) }
+    ensures value { result ≡ P.SIZE + length key.now.value.now + length key.now.path.now }
+    ensures s_after { s.new ≡ splice s.old at (P.bytes (spelled key.now) ++ region s.old at (used - at)) }
 {
-    let n = SUFFIX_SIZE + value.len() + path.len();
+    let n = P::SIZE + key.size();
     move_within(s, at, at + n, used - at);
-    put_suffix(s, at, value, path, reference);
+    P::put(s, at, key);
     n
 }
 

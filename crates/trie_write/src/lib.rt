@@ -2,5 +2,6 @@
 #![tactic(auto)]
 
 pub mod insert;
+pub mod key;
 pub mod split;
 pub mod write;

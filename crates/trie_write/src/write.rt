@@ -1,6 +1,5 @@
 // Writing nodes: the bytes before a body, a suffix, and a leaf with one suffix.
 ghost use Rattle.std.specs.Prelude.{◌≡◌, ◌+◌, ◌≤◌, ◌<◌, [], ◌∷◌, length};
-ghost use Rattle.buffer.specs.Sizes.{reference_size};
 ghost use Rattle.buffer.specs.Splice.{splice};
 ghost use Rattle.trie_theory.specs.Forest.{none};
 ghost use Rattle.trie_theory.specs.SmallTrie.{new_leaf};
@@ -9,7 +8,9 @@ ghost use Rattle.trie_read.specs.Sizes.{head_size, leaf_size};
 ghost use Rattle.trie_read.specs.Shape.{key_of};
 ghost use Rattle.trie_read.specs.Kinds.{byte_of_kind};
 ghost use Rattle.trie_read.specs.Heads.{front};
+ghost use Rattle.trie_write.specs.Keys.{spelled};
 
+use crate::key::Key;
 use buffer::moves::copy_from;
 use buffer::numbers::put32;
 use trie_read::kind::Kind;
@@ -46,11 +47,11 @@ pub fn put_suffix(s: &mut [u8], at: usize, value: &[u8], path: &[u8], reference:
 }
 
 // Writes a leaf with one suffix, all of whose bytes the leaf has.
-pub fn put_leaf(s: &mut [u8], at: usize, value: &[u8], path: &[u8], reference: &[u8])
-    requires { (at + leaf_size + length value.now + length path.now ≤ length s.old) × (length value.now < 256) × (length path.now < 256) × (length reference.now ≡ reference_size) }
-    ensures { s.new ≡ splice s.old at (encode (new_leaf (key_of value.now path.now reference.now) none)) }
+pub fn put_leaf(s: &mut [u8], at: usize, key: &Key<'_>)
+    requires { at + leaf_size + length key.now.value.now + length key.now.path.now ≤ length s.old }
+    ensures { s.new ≡ splice s.old at (encode (new_leaf (spelled key.now) none)) }
 {
-    let body = at + HEAD_SIZE + value.len() + path.len();
-    put_front(s, at, Kind::Leaf, value, path, LEAF_BODY);
-    put_suffix(s, body, &value[0..0], &path[0..0], reference);
+    let body = at + HEAD_SIZE + key.size();
+    put_front(s, at, Kind::Leaf, key.value, key.path, LEAF_BODY);
+    put_suffix(s, body, &key.value[0..0], &key.path[0..0], key.reference);
 }

@@ -1,7 +1,7 @@
 -- None of the first k tries has it.
 use mathlib.Core.Bool.{false}
 use Rattle.store_add.specs.Placed.{InFirst}
-use Rattle.store_add.specs.Spelled.{spelled}
+use Rattle.trie_write.specs.Keys.{spelled}
 use Rattle.store_add.proofs.lookup.has_entry.Given as goal
 
 abbrev pub invariant-loop-k : goal.invariant-loop-k

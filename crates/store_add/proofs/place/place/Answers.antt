@@ -1,11 +1,6 @@
 -- The small trie, or a level.
 use native.Mathlib.Omega.{arith}
 use native.Mathlib.Nat.{mod-lt}
-use mathlib.Core.Path.{ap, ◌∙◌}
-use mathlib.Core.List.{[], ◌∷◌}
-use lib.ListN.{length, length-append}
-use Rattle.buffer.proofs.Digits.{length_bytes_of}
-use Rattle.rows.specs.Sizes.{value_size}
 use Rattle.store_overflow.specs.Entering.{entry_of}
 use Rattle.store_add.proofs.Held.{small_inside}
 use Rattle.store_add.proofs.Placing.{placed_first, placed_level}
@@ -17,17 +12,8 @@ overflow_add-front c = omega (arith, mod-lt c.args.front.held c.requires.ready.m
 pub add_small-requires : goal.add_small-requires
 add_small-requires c =
     let p = c.requires.ready in
-    let k = c.requires.spells in
-    let e = entry_of c.args.entry.now in
     let part = c.trie_range-place.ensures in
-    record {
-      region = (omega (arith, small_inside c.args.front.m c.args.front.l, p.enough), omega (arith, part.inside, part.begins));
-      strings = (
-        omega (arith, ap length k.value ∙ length_bytes_of value_size e.value),
-        omega (arith, ap length k.path ∙ length-append e.path (0 ∷ []), p.short),
-        ap length k.reference ∙ p.twenty,
-      );
-    }
+    (omega (arith, small_inside c.args.front.m c.args.front.l, p.enough), omega (arith, part.inside, part.begins))
 
 pub returns-then-front : goal.returns-then-front
 returns-then-front c =

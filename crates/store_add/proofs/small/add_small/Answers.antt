@@ -14,7 +14,7 @@ returns-then-used-key c =
     let m = c.args.front.m in
     let n : front_room + entry_room * m - front_room ≡ entry_room * m = omega arith in
     let l : length h.new.s ≡ entry_room * m = omega arith in
-    grows m c.args.used _ c.args.store.now c.requires.region.0 h.new.s h.result l (rw n at h.ensures) _ (splice_part _ _ _ _ (l ∙ sym n))
+    grows m c.args.used _ c.args.store.now c.requires.0 h.new.s h.result l (rw n at h.ensures) _ (splice_part _ _ _ _ (l ∙ sym n))
 
 pub returns-else-used-key : goal.returns-else-used-key
-returns-else-used-key c = stays c.args.front.m c.args.used _ c.args.store.now c.requires.region.0 (omega (arith, c.if-used-key.false))
+returns-else-used-key c = stays c.args.front.m c.args.used _ c.args.store.now c.requires.0 (omega (arith, c.if-used-key.false))

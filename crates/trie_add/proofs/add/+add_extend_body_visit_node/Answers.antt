@@ -3,10 +3,11 @@ use native.Mathlib.Omega.{arith}
 use mathlib.Core.Path.{◌≡◌, sym, ap, ◌∙◌}
 use Rattle.std.specs.Prelude.{Ok}
 use Rattle.trie_read.specs.declared.place.Place.TheVariants.{Node, Gap}
-use lib.ListN.{length}
-use Rattle.trie_read.specs.Shape.{part, key_of}
+use lib.ListN.{length, length-drop}
+use Rattle.trie_read.specs.Shape.{part}
 use Rattle.trie_read.proofs.Stretch.{length_part}
 use Rattle.trie_read.proofs.Walking.{on_lengths}
+use Rattle.trie_write.specs.Keys.{spelled}
 use Rattle.trie_write.proofs.NewLeaf.{length_new_leaf}
 use Rattle.trie_add.proofs.First.{height_some}
 use Rattle.trie_add.proofs.Addition.{inner_grown, visit_agrees, visit_differs, added_node, added_gap}
@@ -17,32 +18,35 @@ use Rattle.trie_add.proofs.add.+add_extend_body_visit_node.Goals as goal
 -- ---- add
 -- the tries end within the slice
 long : (t : ℕ) (c : add-Start t) → length (part c.args.off c.args.stop c.args.s.now) ≡ c.args.stop - c.args.off
-long t c = length_part c.args.s.now c.args.off c.args.stop (omega (arith, c.requires.off_le_stop))
+long t c = length_part c.args.s.now c.args.off c.args.stop (omega (arith, c.requires))
 
 -- ---- visit_node
 -- the key is as long as the strings with which it agrees
 agreed : (t : ℕ) (c : visit_node-Then-agrees t)
-    → (c.args.start - (c.args.node + 7) ≤ length c.args.value.now) × (c.args.body - c.args.start ≤ length c.args.path.now)
+    → (c.args.node.now.path - (c.args.node.now.at + 7) ≤ length c.args.key.now.value.now) × (c.args.node.now.body - c.args.node.now.path ≤ length c.args.key.now.path.now)
 agreed t c =
     let a = c.args in
-    let pre = c.requires.head_size_bound in
-    let l = on_lengths (part (a.node + 7) a.start a.s.now) (part a.start a.body a.s.now) a.value.now a.path.now (sym c.agrees.ensures ∙ c.if-agrees.true) in
-    (omega (arith, l, length_part a.s.now (a.node + 7) a.start (omega (arith, pre))), omega (arith, l, length_part a.s.now a.start a.body (omega (arith, pre))))
+    let s = a.s.now in
+    let n = a.node.now in
+    let k = a.key.now in
+    let l = on_lengths (part (n.at + 7) n.path s) (part n.path n.body s) k.value.now k.path.now (sym c.agrees.ensures ∙ c.if-agrees.true) in
+    (omega (arith, l, length_part s (n.at + 7) n.path (omega (arith, c.requires, n.body_behind, n.next_behind))), omega (arith, l, length_part s n.path n.body (omega (arith, c.requires, n.next_behind))))
 
 pub add-returns-in-Node : goal.add-returns-in-Node
 add-returns-in-Node t c =
-    let q : c.find.result ≡ Ok (Node c.in-Node.at c.in-Node.kind c.in-Node.start c.in-Node.body c.in-Node.next) = c.in-Ok.is ∙ ap Ok c.in-Node.is in
-    let f = rw q at c.find.ensures.fits in
+    let q : c.find.result ≡ Ok (Node c.in-Node.node) = c.in-Ok.is ∙ ap Ok c.in-Node.is in
     let l = long t (goal.at.add-returns-in-Node t c).Start in
     let a = c.args in
+    let k = a.key.now in
     let pre = c.requires in
+    let fits = rw q at c.find.ensures.fits in
     let ad = c.visit_node.ensures in
     record {
       little = ad.little;
       are = λ g w asc h e.
           let here = rw q at (c.find.ensures.found g w asc e) in
-          added_node a.s.now a.off a.stop a.used a.above a.depth a.value.now a.path.now a.reference.now (omega (arith, pre.off_le_stop)) (omega (arith, pre.off_le_stop))
-          _ _ _ _ _ _ _ g (omega (arith, pre.off_le_stop, ad.little)) h f.0 f.1 f.2 (omega (arith, f.3, l, pre.off_le_stop)) l here ad;
+          added_node a.s.now a.off a.stop a.used a.above a.depth k.value.now k.path.now k.reference.now pre.0 pre.1
+          _ _ c.in-Node.node _ g (omega (arith, pre, ad.little)) h (omega (arith, fits, l, pre)) l c.behind.ensures here ad;
     }
 
 pub add-returns-in-Gap : goal.add-returns-in-Gap
@@ -50,20 +54,21 @@ add-returns-in-Gap t c =
     let q : c.find.result ≡ Ok (Gap c.in-Gap.at) = c.in-Ok.is ∙ ap Ok c.in-Gap.is in
     let l = long t (goal.at.add-returns-in-Gap t c).Start in
     let a = c.args in
+    let k = a.key.now in
     let pre = c.requires in
-    let put = c.insert_leaf.ensures in
-    let n = length_new_leaf a.value.now a.path.now a.reference.now pre.value_len_bound.2 in
+    let put = c.insert.ensures in
+    let n = length_new_leaf k.value.now k.path.now k.reference.now k.twenty in
     record {
       little = omega (arith, put.value);
       are = λ g w asc h e.
           let passed = rw q at (c.find.ensures.found g w asc e) in
-          added_gap a.s.now a.off a.stop a.used a.above a.depth a.value.now a.path.now a.reference.now (omega (arith, pre.off_le_stop)) (omega (arith, pre.off_le_stop))
-          _ _ _ g (omega (arith, pre.off_le_stop, put.value)) l (put.value ∙ sym n) passed put.s_after;
+          added_gap a.s.now a.off a.stop a.used a.above a.depth k.value.now k.path.now k.reference.now pre.0 pre.1
+          _ _ _ g (omega (arith, pre, put.value)) l (put.value ∙ sym n) passed put.s_after;
     }
 
 -- ---- extend_body
 pub extend_body-returns-in_default : goal.extend_body-returns-in_default
-extend_body-returns-in_default t c = rw c.in_default.is (c.add_suffix.ensures _)
+extend_body-returns-in_default t c = c.add_suffix.ensures _
 
 pub extend_body-returns-then-depth-eq0 : goal.extend_body-returns-then-depth-eq0
 extend_body-returns-then-depth-eq0 t c = record { little = omega arith; are = λ f above w asc h k n e b. absurd (omega (arith, height_some f n, h, c.if-depth-eq0.true)) }
@@ -71,47 +76,37 @@ extend_body-returns-then-depth-eq0 t c = record { little = omega arith; are = λ
 pub extend_body-returns : goal.extend_body-returns
 extend_body-returns t c =
     let a = c.args in
+    let p = a.node.now in
     let pre = c.requires in
     let ad = c.add-n.ensures in
     record {
       little = ad.little;
       are = λ f above w asc h k n e b.
-          inner_grown a.s.now _ _ a.node c.in-Inner.dimension a.body a.next a.used a.depth _ (key_of a.value.now a.path.now a.reference.now) f above w asc h (sym c.in-Inner.is ∙ k) n e b (omega (arith, pre.head_size_bound)) pre.head_size_bound.1 pre.head_size_bound.2 (omega (arith, pre.head_size_bound, ad.little)) ad c.put32.ensures;
+          inner_grown a.s.now _ _ p.at c.in-Inner.dimension p.body p.next a.used a.depth _ (spelled a.key.now) f above w asc h (sym c.in-Inner.is ∙ k) n e b (omega (arith, p.path_behind, p.body_behind)) p.next_behind pre.0 (omega (arith, pre, ad.little)) ad c.put32.ensures;
     }
 
 -- ---- visit_node
-pub visit_node-slice_bounds-extend_body-count : goal.visit_node-slice_bounds-extend_body-count
-visit_node-slice_bounds-extend_body-count t c = (agreed t (goal.at.visit_node-slice_bounds-extend_body-count t c).Then-agrees).0
-
-pub visit_node-slice_bounds-extend_body-start : goal.visit_node-slice_bounds-extend_body-start
-visit_node-slice_bounds-extend_body-start t c = (agreed t (goal.at.visit_node-slice_bounds-extend_body-start t c).Then-agrees).0
-
-pub visit_node-slice_bounds-extend_body-count-then-agrees : goal.visit_node-slice_bounds-extend_body-count-then-agrees
-visit_node-slice_bounds-extend_body-count-then-agrees t c = (agreed t (goal.at.visit_node-slice_bounds-extend_body-count-then-agrees t c).Then-agrees).1
-
-pub visit_node-slice_bounds-extend_body-start-then-agrees : goal.visit_node-slice_bounds-extend_body-start-then-agrees
-visit_node-slice_bounds-extend_body-start-then-agrees t c = (agreed t (goal.at.visit_node-slice_bounds-extend_body-start-then-agrees t c).Then-agrees).1
-
-pub visit_node-extend_body-requires : goal.visit_node-extend_body-requires
-visit_node-extend_body-requires t c =
-    let pre = c.requires in
-    (omega (arith, pre.head_size_bound), ((omega (arith, pre.head_size_bound), pre.head_size_bound.2, pre.head_size_bound.3, omega (arith, pre.head_size_bound), pre.head_size_bound.5), (omega (arith, pre.kind_bound), omega (arith, pre.kind_bound), pre.kind_bound.4)))
+pub visit_node-rest-left-requires : goal.visit_node-rest-left-requires
+visit_node-rest-left-requires t c = agreed t (goal.at.visit_node-rest-left-requires t c).Then-agrees
 
 pub visit_node-returns-then-agrees : goal.visit_node-returns-then-agrees
 visit_node-returns-then-agrees t c =
     let a = c.args in
-    let pre = c.requires.head_size_bound in
+    let n = a.node.now in
+    let k = a.key.now in
+    let pre = c.requires in
     let s = a.s.now in
-    let grown = c.extend_body.ensures in
-    let l = agreed t (goal.at.visit_node-returns-then-agrees t c).Then-agrees in
-    visit_agrees s a.node a.kind a.start a.body a.next a.used a.above a.depth a.value.now a.path.now a.reference.now pre.0 pre.1 pre.2 pre.3
-    _ _ _ _ (omega (arith, grown.little)) (omega (arith, pre)) (sym c.agrees.ensures ∙ c.if-agrees.true)
-    (sym (length_part s (a.node + 7) a.start (omega (arith, pre)))) (sym (length_part s a.start a.body (omega (arith, pre)))) grown
+    let left = c.rest-left.ensures in
+    let grown = rw (left.0, left.1, left.2) at c.extend_body.ensures in
+    visit_agrees s n a.used a.above a.depth k.value.now k.path.now k.reference.now pre.0
+    _ _ _ _ (omega (arith, grown.little, length-drop (n.path - (n.at + 7)) k.value.now, length-drop (n.body - n.path) k.path.now)) (omega (arith, pre)) (sym c.agrees.ensures ∙ c.if-agrees.true)
+    (sym (length_part s (n.at + 7) n.path (omega (arith, pre, n.body_behind, n.next_behind)))) (sym (length_part s n.path n.body (omega (arith, pre, n.next_behind)))) grown
 
 pub visit_node-returns : goal.visit_node-returns
 visit_node-returns t c =
     let a = c.args in
-    let pre = c.requires.head_size_bound in
+    let k = a.key.now in
+    let pre = c.requires in
     let put = c.split.ensures in
-    visit_differs a.s.now a.node a.kind a.start a.body a.next a.used a.above a.depth a.value.now a.path.now a.reference.now pre.0 pre.1 pre.2 pre.3
+    visit_differs a.s.now a.node.now a.used a.above a.depth k.value.now k.path.now k.reference.now pre.0
     _ _ put.upper_bound (omega (arith, pre)) (sym c.agrees.ensures ∙ c.if-agrees.false) put.replaced

@@ -1,6 +1,6 @@
 -- The second front right behind the first.
 use native.Mathlib.Omega.{arith}
-use native.Mathlib.Nat.{sub-zero}
+use Prim.Native.Nat.{◌+◌, ◌-◌}
 use mathlib.Core.Path.{◌∙◌}
 use mathlib.Core.List.{[], ◌∷◌}
 use lib.ListN.{take, drop}
@@ -9,20 +9,25 @@ use Rattle.buffer.proofs.Splice.{splice_then}
 use Rattle.trie_read.specs.Kinds.{byte_of_kind}
 use Rattle.trie_read.specs.declared.kind.Kind.TheVariants.{Inner}
 use Rattle.trie_read.specs.Heads.{front}
+use Rattle.trie_read.specs.Shape.{part}
 use Rattle.trie_read.proofs.Node.{length_front}
-use Rattle.trie_read.proofs.Stretch.{part_from}
+use Rattle.trie_read.proofs.Stretch.{length_part, part_from}
 use Rattle.trie_add.proofs.split.put_fronts.Goals as goal
 
 pub returns : goal.returns
 returns c =
     let a = c.args in
-    let v = a.value.now in
-    let p = a.path.now in
-    let one = front (byte_of_kind (Inner a.up)) (take a.a v ∷ take a.b p ∷ []) a.size in
-    let two = front (byte_of_kind a.kind) (drop a.a v ∷ drop a.b p ∷ []) a.own in
-    let l = length_front (byte_of_kind (Inner a.up)) (take a.a v ∷ take a.b p ∷ []) a.size in
-    let la = length-take-le a.a v (omega arith) in
-    let lb = length-take-le a.b p (omega arith) in
-    let first = rw (sub-zero, sub-zero) at c.put_front.ensures in
-    let second = rw (part_from v a.a, part_from p a.b) at c.put_front-2.ensures in
-    second ∙ splice_then _ a.new.now 0 one _ two first (omega arith) (omega arith)
+    let n = a.node.now in
+    let s = a.s.now in
+    let cut = a.cut in
+    let v = part (n.at + 7) n.path s in
+    let p = part n.path n.body s in
+    let lv = length_part s (n.at + 7) n.path (omega (arith, c.requires, n.body_behind, n.next_behind)) in
+    let lp = length_part s n.path n.body (omega (arith, c.requires, n.next_behind)) in
+    let one = front (byte_of_kind (Inner cut.dimension)) (take cut.value v ∷ take cut.path p ∷ []) a.size in
+    let two = front (byte_of_kind n.kind) (drop cut.value v ∷ drop cut.path p ∷ []) (n.next - n.body) in
+    let l = length_front (byte_of_kind (Inner cut.dimension)) (take cut.value v ∷ take cut.path p ∷ []) a.size in
+    let la = length-take-le cut.value v (omega (arith, lv, c.requires)) in
+    let lb = length-take-le cut.path p (omega (arith, lp, c.requires)) in
+    let second = rw (part_from v cut.value, part_from p cut.path) at c.put_front-2.ensures in
+    second ∙ splice_then _ a.new.now 0 one _ two c.put_front.ensures (omega (arith, la, lb, l)) (omega (arith, la, lb, l))

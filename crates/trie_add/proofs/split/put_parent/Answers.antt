@@ -15,13 +15,16 @@ pub returns : goal.returns
 unfolding fronts
 returns c =
     let a = c.args in
+    let n = a.node.now in
     let s = a.s.now in
-    let nv = part (a.at + 7) a.start s in
-    let np = part a.start a.body s in
-    let lv = length_part s (a.at + 7) a.start (omega arith) in
-    let lp = length_part s a.start a.body (omega arith) in
-    let f = fronts a.c.value a.c.path (byte_of_kind (Inner a.c.dimension)) a.size nv np (byte_of_kind a.kind) a.own in
-    let l = length_fronts a.c.value a.c.path (byte_of_kind (Inner a.c.dimension)) a.size nv np (byte_of_kind a.kind) a.own (omega (arith, lv)) (omega (arith, lp)) in
+    let pre = c.requires in
+    let nv = part (n.at + 7) n.path s in
+    let np = part n.path n.body s in
+    let lv = length_part s (n.at + 7) n.path (omega (arith, pre.room, n.body_behind, n.next_behind)) in
+    let lp = length_part s n.path n.body (omega (arith, pre.room, n.next_behind)) in
+    let up = byte_of_kind (Inner a.cut.dimension) in
+    let f = fronts a.cut.value a.cut.path up a.size nv np (byte_of_kind n.kind) (n.next - n.body) in
+    let l = length_fronts a.cut.value a.cut.path up a.size nv np (byte_of_kind n.kind) (n.next - n.body) (omega (arith, lv, pre.inside)) (omega (arith, lp, pre.inside)) in
     let put = c.put_fronts.ensures in
-    let new : part 0 (a.body - a.at + 7) (splice (replicate 524 0) 0 f) ≡ f = written (replicate 524 0) f (a.body - a.at + 7) (omega (arith, l, lv, lp)) (omega (arith, l, lv, lp)) in
+    let new : part 0 (n.body - n.at + 7) (splice (replicate 524 0) 0 f) ≡ f = written (replicate 524 0) f (n.body - n.at + 7) (omega (arith, l, lv, lp, n.path_behind, n.body_behind)) (omega (arith, l, lv, lp, n.path_behind, n.body_behind, n.value_short, n.path_short)) in
     rw (put, new) at c.replace_front.ensures

@@ -17,12 +17,13 @@ unfolding encode
 returns c =
     let a = c.args in
     let s = a.s.now in
-    let v = a.value.now in
-    let p = a.path.now in
-    let r = a.reference.now in
+    let k = a.key.now in
+    let v = k.value.now in
+    let p = k.path.now in
+    let r = k.reference.now in
     let first = front 0 (v ∷ p ∷ []) 22 in
     let l = length_front 0 (v ∷ p ∷ []) 22 in
     let last = suffix_bytes (key_of [] [] r) in
     c.put_suffix.ensures
     ∙ splice_then _ s a.at first _ last c.put_front.ensures (omega arith) (omega arith)
-    ∙ ap (splice s a.at) (ap (first ++◌) (sym (append-nil last)) ∙ sym (new_leaf_bytes v p r none (omega arith)))
+    ∙ ap (splice s a.at) (ap (first ++◌) (sym (append-nil last)) ∙ sym (new_leaf_bytes v p r none k.twenty))
