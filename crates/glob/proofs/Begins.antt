@@ -17,20 +17,6 @@ use Rattle.glob.specs.Inner.{Begun, Cut}
 use Rattle.glob.proofs.Parts.{rest, split, front, back, no_items, length_back}
 use Rattle.glob.proofs.Cuts.{no_labels, some_labels}
 
-none_is : {A : Type 0} (k : List A) → eqb (length k) 0 ≡ none k
-none_is [] = refl
-none_is (x ∷ k) = eqb-suc-zero (length k)
-
-pub begins_end : (p k : List ℕ) → length p ≡ 0 → eqb (length k) 0 ≡ begins_label p k
-begins_end p k e = rw (no_items p e) (none_is k)
-
-pub begins_done : (p k : List ℕ) → (length p ≡ 0 → ⊥) → length k ≡ 0 → true ≡ begins_label p k
-begins_done [] k f e = absurd (f refl)
-begins_done (c ∷ p) k f e = rw (no_items k e)
-
-pub begins_more : (p k : List ℕ) → (length p ≡ 0 → ⊥) → (length k ≡ 0 → ⊥) → begins_label p k ≡ eqb (get_or p 0 0) star || (eqb (get_or p 0 0) (get_or k 0 0) && begins_label (rest p) (rest k))
-begins_more p k f g = ap₂ begins_label (split p f) (split k g)
-
 pub labels_end : (p k : List ℕ) → length p ≡ 0 → Begun k → eqb (length k) 0 ≡ begins_labels (labels_of p) (labels_of k)
 labels_end p [] e b = rw (no_labels p e)
 labels_end p (x ∷ k) e b = rw (no_labels p e) (eqb-suc-zero (length k) ∙ sym (some_labels (x ∷ k) (λ z. absurd (omega arith)) b))
@@ -67,11 +53,3 @@ last_cut k b e = rw (no_labels (back k b) (length_back k b ∙ omega arith))
 
 pub other_cut : (k : List ℕ) (b : ℕ) → Cut k b → (b ≡ length k → ⊥) → none (labels_of (back k b)) ≡ false
 other_cut k b h f = some_labels (back k b) (λ e. let l = length_back k b in let m = h.high in f (omega arith)) h.begun
-
--- the same by four bytes
-pub deep_first : (p : List ℕ) → 4 ≤ length p → get_or p 0 0 ≡ slash → get_or p 1 0 ≡ star → get_or p 2 0 ≡ star → get_or p 3 0 ≡ slash → (ks : List (List ℕ)) → begins_labels (labels_of p) ks ≡ true
-deep_first [] l a b c d ks = absurd (omega arith)
-deep_first (x ∷ []) l a b c d ks = absurd (omega arith)
-deep_first (x ∷ y ∷ []) l a b c d ks = absurd (omega arith)
-deep_first (x ∷ y ∷ z ∷ []) l a b c d ks = absurd (omega arith)
-deep_first (x ∷ y ∷ z ∷ w ∷ p) l a b c d ks = ap (λ (q : List ℕ). begins_labels (labels_of q) ks) (λ i. a i ∷ b i ∷ c i ∷ d i ∷ p) ∙ deep_begins (star ∷ star ∷ []) (labels_of (slash ∷ p)) ks refl

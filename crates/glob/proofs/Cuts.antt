@@ -37,16 +37,6 @@ up_more s i l e = ap length (ap up_to_slash (step s i l) ∙ no_slash_here (drop
 pub up_end : (s : List ℕ) (i : ℕ) → length s ≤ i → length (up_to_slash (drop i s)) ≡ 0
 up_end s i l = ap (λ (t : List ℕ). length (up_to_slash t)) (drop_of_length-le s l)
 
--- the labels from an index on
-pub count_here : (s : List ℕ) (i : ℕ) → i < length s → get_or s i 0 ≡ slash → length (labels_of (drop i s)) ≡ suc (length (labels_of (drop (i + 1) s)))
-count_here s i l e = rw (step s i l, eq-eqb _ _ e)
-
-pub count_on : (s : List ℕ) (i : ℕ) → i < length s → (get_or s i 0 ≡ slash → ⊥) → length (labels_of (drop i s)) ≡ length (labels_of (drop (i + 1) s))
-count_on s i l e = rw (step s i l, ne_eqb _ _ e)
-
-pub count_end : (s : List ℕ) (i : ℕ) → length s ≤ i → length (labels_of (drop i s)) ≡ 0
-count_end s i l = ap (λ (t : List ℕ). length (labels_of t)) (drop_of_length-le s l)
-
 -- in what stands up to the first `/` there is none
 up_none : (t : List ℕ) (j : ℕ) → j < length (up_to_slash t) → get_or t j 0 ≡ slash → ⊥
 up_none [] j l e = absurd (omega arith)

@@ -36,10 +36,6 @@ length_back k b = rw (tail_part b k) (length-drop b k)
 pub step : (s : List ℕ) (i : ℕ) → i < length s → drop i s ≡ get_or s i 0 ∷ drop (i + 1) s
 step s i l = rw add-one (drop-cons s i 0 l)
 
-pub not_none : {A : Type 0} (l : List A) → (length l ≡ 0 → ⊥) → none l ≡ false
-not_none [] f = absurd (f refl)
-not_none (x ∷ l) f = refl
-
 -- &l[0..] is l, and parts of parts are parts
 pub back_all : (l : List ℕ) → back l 0 ≡ l
 back_all l = tail_part 0 l

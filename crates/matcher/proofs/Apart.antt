@@ -27,10 +27,6 @@ may_stand m c next = cond (eqb c m) (not (eqb next m)) (label_byte c)
 pub label_stands : (m c next : ℕ) → label_byte m ≡ false → label_byte c ≡ true → true ≡ may_stand m c next
 label_stands m c next n e = rw (ne_eqb c m (λ z. not_both e (ap label_byte z ∙ n)), e)
 
--- a byte that is neither may not
-pub other_stands : (m c next : ℕ) → label_byte c ≡ false → (c ≡ m → ⊥) → false ≡ may_stand m c next
-other_stands m c next n e = rw (ne_eqb c m e, n)
-
 pub apart_step : (m : ℕ) (s : List ℕ) (i : ℕ) → i < length s → apart m (drop i s) ≡ may_stand m (get_or s i 0) (get_or s (i + 1) 0) && apart m (drop (i + 1) s)
 apart_step m s i l = ap (apart m) (step s i l) ∙ ap (λ (d : ℕ). may_stand m (get_or s i 0) d && apart m (drop (i + 1) s)) (get_or-drop (i + 1) s 0 0 ∙ ap (λ (n : ℕ). get_or s n 0) (add-zero (i + 1)))
 
@@ -50,18 +46,10 @@ apart_past m s n from r e l a =
 pub apart_end : (m : ℕ) (s : List ℕ) (i : ℕ) → length s ≤ i → apart m (drop i s) ≡ true
 apart_end m s i l = ap (apart m) (drop_of_length-le s l)
 
--- bytes that begin a path, as the code tests them
-pub begins_none : (k : List ℕ) → length k ≡ 0 → true ≡ begins_path k
-begins_none k e = rw (no_items k e)
-
+-- bytes that begin a path, and are some
 pub begins_some : (k : List ℕ) → (length k ≡ 0 → ⊥) → begins_path k ≡ eqb (get_or k 0 0) slash && apart slash k
 begins_some [] f = absurd (f refl)
 begins_some (c ∷ k) f = refl
-
-pub begins_slash : (k : List ℕ) → length k ≡ 1 → get_or k 0 0 ≡ slash → true ≡ begins_path k
-begins_slash [] l e = absurd (omega arith)
-begins_slash (c ∷ []) l e = rw e
-begins_slash (c ∷ x ∷ k) l e = absurd (omega arith)
 
 -- the last byte
 abbrev pub last_byte : List ℕ → ℕ

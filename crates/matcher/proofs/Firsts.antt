@@ -11,7 +11,7 @@ use lib.Dec.{eqb}
 use borrow.Author.Tests.{eq-eqb, eqb-true}
 use Rattle.buffer.specs.Lists.{none}
 use Rattle.buffer.proofs.Tests.{not_both, and_both}
-use Rattle.glob.proofs.Parts.{no_items, not_none, last_place}
+use Rattle.glob.proofs.Parts.{no_items, last_place}
 use Rattle.matcher.specs.Bytes.{end_byte}
 use Rattle.matcher.specs.Form.{formed_path}
 use Rattle.matcher.specs.Continued.{ended, FirstBytes}
@@ -39,24 +39,6 @@ last_split known e =
   where
     above : (n : ℕ) → n ≤ suc (n - 1)
     above n = omega arith
-
--- the end byte, as the code meets it: nothing is known, or the last byte tells
-pub ended_none : (known : List ℕ) → length known ≡ 0 → false ≡ ended known
-ended_none known l = rw (no_items known l)
-
-pub ended_some : (known : List ℕ) → (length known ≡ 0 → ⊥) → eqb (last_byte known) end_byte ≡ ended known
-ended_some known f = rw (not_none known f)
-
-pub ended_long : (known : List ℕ) → ended known ≡ true → 1 ≤ length known
-ended_long [] e = not_both e refl
-ended_long (c ∷ k) e = omega arith
-
--- the bytes before the last, as the code lends them
-pub lent_before : (known : List ℕ) → take (length known - 1 - 0) known ≡ take (length known - 1) known
-lent_before known = ap (λ (n : ℕ). take n known) (from_start (length known - 1))
-  where
-    from_start : (n : ℕ) → n - 0 ≡ n
-    from_start n = omega arith
 
 -- ---- fewer bytes, and all
 
