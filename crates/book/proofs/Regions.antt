@@ -15,7 +15,7 @@ use Rattle.trie_theory.specs.Encode.{encode}
 use Rattle.book.specs.Front.{Front, front_size, held_at, front_room, entry_room, front_bytes, holding, need}
 use Rattle.book.specs.Tries.{Tries}
 use Rattle.book.specs.Image.{padded, regions, store_of, Holds}
-use Rattle.book.proofs.Image.{Fit, length_padded, length_regions, length_store, length_top}
+use Rattle.book.proofs.Image.{Fit, length_padded, length_regions, length_top}
 
 -- ---- lists in three parts
 
@@ -129,21 +129,6 @@ module _ (f : Front) (t : Tries) where
         ∙ ap (λ (x : List ℕ). top ++ (padded n (encode t'.small) ++ x)) (sym a)
         ∙ sym (Rattle.book.proofs.Regions.at_small f t')
 
-    pub write_level : (t' : Tries) (i : ℕ) → i < f.L → t'.small ≡ t.small → ((k : ℕ) → k < f.L → (k ≡ i → ⊥) → t'.level k ≡ t.level k)
-        → length (encode (t'.level i)) ≤ entry_room * f.M * 2 ^ i
-        → splice (store_of f t) (level_at f.M i) (padded (entry_room * f.M * 2 ^ i) (encode (t'.level i))) ≡ store_of f t'
-    unfolding top
-    write_level t' i h small same few =
-        let n = entry_room * f.M * 2 ^ i in
-        let c = above f.M (suc i) (f.L - suc i) in
-        let a = above_same f.M (suc i) (f.L - suc i) t t' (λ k l u. same k (omega arith) (λ z. omega arith)) in
-        let r = regions_same f.M i t t' small (λ k l. same k (omega arith) (λ z. omega arith)) in
-        ap (λ (s : List ℕ). splice s (level_at f.M i) (padded n (encode (t'.level i)))) (at_level i h)
-        ∙ splice_mid (top ++ regions f.M i t) (padded n (encode (t.level i))) (padded n (encode (t'.level i))) (c t) (level_at f.M i) (before_level i h)
-        (length_padded n (encode (t'.level i)) few ∙ sym (length_padded n (encode (t.level i)) (fits.levels i h)))
-        ∙ ap₂ (λ (x y : List ℕ). (top ++ x) ++ (padded n (encode (t'.level i)) ++ y)) (sym r) (sym a)
-        ∙ sym (Rattle.book.proofs.Regions.at_level f t' i h)
-
 -- the held number, in its four bytes
 pub write_held : (f : Front) (t : Tries) (n : ℕ) → splice (store_of f t) held_at (bytes_of 4 n) ≡ store_of (holding n f) t
 unfolding store_of padded front_bytes
@@ -175,10 +160,3 @@ module _ {store : List ℕ} {f : Front} {t : Tries} (h : Holds store f t) (fits 
       let d : entry_room * f.M * 2 ^ suc i ≡ n * 2 = ap (λ (x : ℕ). entry_room * f.M * x) (pow-suc 2 i) ∙ sym (mul_assoc (entry_room * f.M) (2 ^ i) 2) in
       region_take store (need f.M f.L) (level_at f.M i) n (omega arith) h.enough
       ∙ ap (λ (s : List ℕ). region s (level_at f.M i) n) h.bytes ∙ region_level f t fits i k
-
-  -- a write within it, of which the store of other numbers and tries comes
-  pub holds_written : (f' : Front) (t' : Tries) (o : ℕ) (b : List ℕ) → o + length b ≤ need f.M f.L → splice (store_of f t) o b ≡ store_of f' t'
-      → splice store o b ≡ splice store 0 (store_of f' t')
-  holds_written f' t' o b l e =
-      let n : length (store_of f t) ≡ need f.M f.L = length_store f t fits in
-      write_through store (store_of f t) o b (rw n h.bytes) (rw n l) ∙ ap (splice store 0) e

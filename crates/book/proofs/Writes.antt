@@ -104,10 +104,6 @@ module _ (b : Book) (e : Entry) (s : Sound b) where
       ∙ sym held_more
 
   module _ (s' : Sound (put e b)) where
-    -- the numbers: held is one more
-    pub image_put : image (put e b) ≡ store_of (holding (held b + 1) (front b)) (tries (put e b))
-    image_put = held_more
-
     -- the small trie stays below M entries: it is written anew, and the held number
     pub add_small : length (small b.M b.entries) + 1 < b.M
         → splice (splice (image b) small_at (padded (entry_room * b.M) (encode (added root (tries b).small (entry_key e))))) held_at (bytes_of 4 (held b + 1))

@@ -1,6 +1,6 @@
 -- Laws of small words about lists: what holds of every element, what some element passes, what is picked, equal lists, parts.
 use Prim.Native.Nat.{ℕ, zero, suc, ◌-◌, ◌≤◌}
-use Rattle.buffer.proofs.Tests.{and_left, and_right, and_both, or_right}
+use Rattle.buffer.proofs.Tests.{and_left, and_right, and_both}
 use mathlib.Core.Path.{◌≡◌, refl, sym, ap, ap₂, ◌∙◌}
 use mathlib.Core.Bool.{Bool, true, false, cond, ◌||◌, false≢true}
 use mathlib.Core.List.{List, [], ◌∷◌, ◌++◌, map, append_assoc, append-nil}
@@ -121,10 +121,6 @@ pub map_agree : {A B : Type 0} {f g : A → B} {xs : List A} → All (λ x. f x 
 map_agree nil = refl
 map_agree (cons h a) = ap₂ ◌∷◌ h (map_agree a)
 
-pub map_same : {A : Type 0} (xs : List A) → map (λ x. x) xs ≡ xs
-map_same [] = refl
-map_same (x ∷ xs) = ap (λ (l : List _). x ∷ l) (map_same xs)
-
 pub map_take : {A B : Type 0} (f : A → B) (n : ℕ) (xs : List A) → map f (take n xs) ≡ take n (map f xs)
 map_take f zero xs = refl
 map_take f (suc n) [] = refl
@@ -194,11 +190,6 @@ any_in t (x ∷ xs) e = go (t x) refl e (any_in t xs)
         → (y : _) × In y (x ∷ xs) × (t y ≡ true)
     go true h e r = (x, at_head, h)
     go false h e r = let y = r e in (y.0, later y.1, y.2)
-
-pub in_any : {A : Type 0} (t : A → Bool) {x : A} {xs : List A} → In x xs → t x ≡ true → any t xs ≡ true
-unfolding any
-in_any t (at_head) e = rw e
-in_any t (later {y = y} {xs = xs} i) e = or_right (t y) (any t xs) (in_any t i e)
 
 -- the test of equal lists is right, both ways
 pub same_true : {A : Type 0} (t : A → A → Bool) → ((x y : A) → t x y ≡ true → x ≡ y) → (xs ys : List A) → same t xs ys ≡ true

@@ -186,12 +186,6 @@ region_snoc s o n h =
 pub region_cons : (s : List ℕ) (o n : ℕ) → o < length s → region s o (n + 1) ≡ get_or s o 0 ∷ region s (o + 1) n
 region_cons s o n h = rw (add-one, add-one, drop-cons s o 0)
 
--- one element before a splice
-pub set_before : (s : List ℕ) (o : ℕ) (b : List ℕ) (i v : ℕ) → i < o → o + length b ≤ length s → set (splice s o b) i v ≡ splice (set s i v) o b
-set_before s o b i v h fit =
-    let k : i < length (splice s o b) = rw (length_splice s o b fit) (omega arith) in
-    rw (set_splice (splice s o b) i v k, set_splice s i v (omega arith)) (sym (splice_commute s i o (v ∷ []) b (omega arith) fit))
-
 -- a splice behind what is dropped
 pub drop_before : (s : List ℕ) (k o : ℕ) (b : List ℕ) → k ≤ length s → drop k (splice s (k + o) b) ≡ splice (drop k s) o b
 drop_before s k o b h =
@@ -237,10 +231,6 @@ pub splice_whole : (s b : List ℕ) → length b ≡ length s → splice s 0 b �
 splice_whole s b h =
     let all : length s ≤ 0 + length b = omega arith in
     rw (splice_is s 0 b, drop_of_length-le s all, append-nil b)
-
--- one element moved
-pub set_region : (s : List ℕ) (i j : ℕ) → i < length s → j < length s → set s i (get_or s j 0) ≡ splice s i (region s j 1)
-set_region s i j h k = rw (set_splice s i (get_or s j 0) h, region_cons s j 0 k)
 
 -- a write after others, all side by side
 pub splice_then : (s s₀ : List ℕ) (o : ℕ) (b : List ℕ) (p : ℕ) (a : List ℕ) → s ≡ splice s₀ o b → p ≡ o + length b → o + length b ≤ length s₀

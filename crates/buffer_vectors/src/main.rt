@@ -58,9 +58,7 @@ fn run(console: &mut Console, s: &mut [u8; 64], command: &[u8; 16]) {
 }
 
 fn print(console: &mut Console, s: &[u8; 64]) {
-    for b in s {
-        console.print_hex(*b);
-    }
+    console.print_hex(s);
     console.print(b"\n");
 }
 

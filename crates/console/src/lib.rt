@@ -38,10 +38,12 @@ impl Console {
         }
     }
 
-    // Two hex digits.
-    pub fn print_hex(&mut self, b: u8) {
-        if self.writes.is_ok() {
-            self.writes = write!(self.output, "{b:02x}");
+    // Two hex digits a byte.
+    pub fn print_hex(&mut self, bytes: &[u8]) {
+        for b in bytes {
+            if self.writes.is_ok() {
+                self.writes = write!(self.output, "{b:02x}");
+            }
         }
     }
 

@@ -126,14 +126,6 @@ module _ (q : Query) (known : List ℕ) where
       go true false = refl
       go false b = refl
 
-  match_value : is_match (value_reach q known) ≡ true → overlaps q known ≡ true
-  unfolding value_reach
-  match_value = go (overlaps q known) (eqb (length known) value_size)
-    where
-      go : (a b : Bool) → is_match (cond a (cond b Match Incomplete) Mismatch) ≡ true → a ≡ true
-      go true b e = refl
-      go false b e = not_both e refl
-
 -- ---- the path
 
 goes_on_path : (pattern known : List ℕ) → Continued pattern known → goes_on (reach_of pattern known) ≡ true

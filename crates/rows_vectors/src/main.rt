@@ -39,7 +39,7 @@ impl Random {
     }
 }
 
-// An entry whose reference is zeros but for the last byte.
+// An entry whose reference is zeros but for the last byte, the mark. (The `Entry` of store_overflow lies above `rows` and has a whole reference.)
 #[derive(Clone, Copy)]
 struct Entry<'a> {
     value: u64,
@@ -68,8 +68,8 @@ fn put(s: &mut [u8], entry: Entry<'_>)
 }
 
 // A record with few values, paths and references, so that many are equal; what follows the row differs.
-fn generate(record: &mut [u8], random: Random)
-    requires { row_size ≤ length record.old }
+fn generate(bytes: &mut [u8], random: Random)
+    requires { row_size ≤ length bytes.old }
 {
     let mut path = [b'/'; 8];
     path[1] = random.letter(262144);
@@ -77,17 +77,17 @@ fn generate(record: &mut [u8], random: Random)
     path[5] = random.letter(1048576);
     path[7] = random.letter(2097152);
     let end = (random.x / 65536 % 4) as usize * 2 + 2;
-    record.fill(0);
+    bytes.fill(0);
     put(
-        record,
+        bytes,
         Entry::new(
             random.x / 4194304 % 5,
             &path[..end],
             (random.x / 33554432 % 3) as u8,
         ),
     );
-    if ROW_SIZE < record.len() {
-        record[ROW_SIZE] = (random.x / 65536 % 251) as u8;
+    if ROW_SIZE < bytes.len() {
+        bytes[ROW_SIZE] = (random.x / 65536 % 251) as u8;
     }
 }
 
@@ -101,27 +101,21 @@ fn fill(s: &mut [u8], width: usize)
     }
 }
 
-fn print_hex(console: &mut Console, bytes: &[u8]) {
-    for b in bytes {
-        console.print_hex(*b);
-    }
-}
-
 // Value, path, reference, and the byte after the row where there is one.
-fn print_record(console: &mut Console, record: &[u8])
-    requires { row_size ≤ length record.now }
+fn print_record(console: &mut Console, bytes: &[u8])
+    requires { row_size ≤ length bytes.now }
 {
-    console.print_decimal(get64(record, 0));
+    console.print_decimal(get64(bytes, 0));
     console.print(b",");
-    let end = PATH_AT + usize::from(record[LENGTH_AT]);
-    if end <= record.len() {
-        console.print(&record[PATH_AT..end]);
+    let end = PATH_AT + usize::from(bytes[LENGTH_AT]);
+    if end <= bytes.len() {
+        console.print(&bytes[PATH_AT..end]);
     }
     console.print(b",");
-    print_hex(console, &record[REFERENCE_AT..LENGTH_AT]);
-    if ROW_SIZE < record.len() {
+    console.print_hex(&bytes[REFERENCE_AT..LENGTH_AT]);
+    if ROW_SIZE < bytes.len() {
         console.print(b",");
-        console.print_hex(record[ROW_SIZE]);
+        console.print_hex(&[bytes[ROW_SIZE]]);
     }
     console.print(b"\n");
 }
@@ -131,12 +125,12 @@ fn print_case(console: &mut Console, s: &[u8], width: usize)
     requires { (row_size ≤ width) × (4 ≤ length s.now) }
 {
     let end = s.len() - 1;
-    print_hex(console, &s[..3]);
+    console.print_hex(&s[..3]);
     console.print(b"\n");
     for record in s[3..end].chunks_exact(width) {
         print_record(console, record);
     }
-    print_hex(console, &s[end..]);
+    console.print_hex(&s[end..]);
     console.print(b"\n");
 }
 
@@ -176,7 +170,7 @@ fn compare_case(console: &mut Console, a: Entry<'_>, b: Entry<'_>) {
         Ordering::Equal => console.print(b"equals\n"),
         Ordering::Greater => console.print(b"comes after\n"),
     }
-    if rows::order::equal(&x, &y) {
+    if x == y {
         console.print(b"and is the same as\n");
     } else {
         console.print(b"and is not the same as\n");

@@ -30,9 +30,6 @@ counted a rows second h = a.count ∙ sym (length_sorted record_order a.put) ∙
 
 -- ---- are there more than there is room for?
 
-pub held_room : (Rows : List (List ℕ) → ℕ → Type 0) (held room : ℕ) → held ≤ room → Overfull Rows held room None
-held_room Rows held room h = λ rows second k few. omega arith
-
 module _ {width : ℕ} {Rows : List (List ℕ) → ℕ → Type 0} {s s' : List ℕ} {n d : ℕ} (held room : ℕ) (a : Walked width Rows 0 s s' n d) where
   pub found_room : n ≤ room → Overfull Rows held room None
   found_room h = λ rows second k few. omega (arith, counted a rows second k)

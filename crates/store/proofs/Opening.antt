@@ -13,7 +13,7 @@ use Rattle.book.proofs.Front.{Within, within, too_short}
 use Rattle.std.specs.Prelude.{Ok, Err}
 use Rattle.store.specs.Opening.{Reads, OpenedNumber}
 use Rattle.store.specs.declared.front.Front as Code
-use Rattle.book.specs.Front.{Front, front_size, front_of, m_limit, l_limit, in_limits, need, capacity, no_store}
+use Rattle.book.specs.Front.{Front, front_size, front_of, in_limits, need, capacity, no_store}
 use Rattle.book.specs.Replies.{read_number}
 
 second : (a c d : Bool) → a || not false || c || d ≡ true
@@ -51,9 +51,6 @@ module _ (s : List ℕ) (g : Code.Front) (r : Reads s g) where
   limits : (b : Bool) → in_limits g.m g.l g.tau ≡ b → in_limits f.M f.L f.τ ≡ b
   limits b e = rw (r.m_is, r.l_is, r.tau_is) at e
 
-  pub no_limits : in_limits g.m g.l g.tau ≡ false → no_store (length s) f ≡ true
-  no_limits e = bad_limits (length s) f (limits false e)
-
   pub no_length : (n : ℕ) → n ≡ need g.m g.l → length s < n → no_store (length s) f ≡ true
   no_length n e h = too_short (length s) f (rw (← r.m_is, ← r.l_is, ← e) h)
 
@@ -87,11 +84,6 @@ stored n f e =
     let w = within f.M f.L f.τ (not-false (in_limits f.M f.L f.τ) p.1) in
     let some : 0 < f.M * 2 ^ f.L = mul-le-mul w.m_low (pow_pos f.L) in
     record { limits = w; enough = ltb-false n (need f.M f.L) p.2; inside = omega (arith, some, ltb-false (f.M * 2 ^ f.L - 1) f.held p.3) }
-
--- .. by the numbers read
-pub opened_within : (s : List ℕ) (g : Code.Front) → Reads s g → no_store (length s) (front_of s) ≡ false
-    → (g.m ≤ m_limit) × (g.l ≤ l_limit) × (need g.m g.l ≤ length s)
-opened_within s g r h = let w = stored (length s) (front_of s) h in rw (r.m_is, r.l_is) (w.limits.m_high, w.limits.l_high, w.enough)
 
 pub opened_number_lem : OpenedNumber
 unfolding read_number

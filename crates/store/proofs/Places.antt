@@ -17,7 +17,7 @@ use Rattle.trie_theory.specs.Encode.{Regular, WholeReference, encode}
 use Rattle.trie_theory.proofs.Encode.{sound_regular}
 use Rattle.trie_read.specs.Shape.{part}
 use Rattle.trie_read.proofs.Stretch.{length_part}
-use Rattle.book.specs.Front.{Front, front_room, entry_room, need}
+use Rattle.book.specs.Front.{Front, entry_room, need}
 use Rattle.book.specs.Tries.{Tries, every}
 use Rattle.book.specs.Image.{padded, Holds}
 use Rattle.book.specs.Good.{Good, GoodTries}
@@ -26,18 +26,6 @@ use Rattle.book.proofs.Regions.{holds_small, holds_level}
 use Rattle.store.specs.Parts.{region_at, region_size, numbered, up_to, PartOf}
 
 -- ---- where they lie
-
-pub size_zero : (m k : ℕ) → k ≡ 0 → entry_room * m ≡ region_size m k
-size_zero m k e = ap (region_size m) (sym e)
-
-pub size_some : (m k : ℕ) → (k ≡ 0 → ⊥) → entry_room * m * 2 ^ (k - 1) ≡ region_size m k
-size_some m k n = let e : k ≡ suc (k - 1) = omega arith in sym (ap (region_size m) e)
-
-pub at_zero : (m k : ℕ) → k ≡ 0 → front_room ≡ region_at m k
-at_zero m k e = ap (region_at m) (sym e)
-
-pub at_some : (m k : ℕ) → (k ≡ 0 → ⊥) → front_room + region_size m k ≡ region_at m k
-at_some m k n = let e : k ≡ suc (k - 1) = omega arith in ap (λ (i : ℕ). front_room + region_size m i) e ∙ sym (ap (region_at m) e)
 
 pub region_within : (m l k : ℕ) → k ≤ l → region_at m k + region_size m k ≤ need m l
 unfolding need

@@ -1,13 +1,8 @@
 -- Powers of two, and the need of a store. Assumes nothing.
-use mathlib.Core.Path.{◌≡◌}
-use Prim.Native.Nat.{ℕ, ◌+◌, ◌*◌, ◌^◌, ◌≤◌}
+use Prim.Native.Nat.{ℕ, ◌*◌, ◌^◌, ◌≤◌}
 use native.Mathlib.Omega.{arith}
-use native.Mathlib.Numerals.{add-one}
-use native.Mathlib.Nat.{pow-suc, mul-le-mul_right}
+use native.Mathlib.Nat.{mul-le-mul_right}
 use lib.Pow.{pow_mono}
-
-pub power_next : (i : ℕ) → 2 ^ (i + 1) ≡ 2 ^ i * 2
-power_next i = rw (add-one i) (pow-suc 2 i)
 
 -- up to the eighth
 pub power_most : (i : ℕ) → i ≤ 8 → 2 ^ i ≤ 256

@@ -62,11 +62,6 @@ inner_byte Value h = refl
 inner_byte Path h = refl
 inner_byte (Other b) h = absurd (omega arith)
 
--- what is no inner node
-pub leaf_of : (k : Kind) → ((d : Dimension) → k ≡ Inner d → ⊥) → k ≡ Leaf
-leaf_of Leaf h = refl
-leaf_of (Inner d) h = absurd (h d refl)
-
 -- undecided bytes fall
 falls_all : (d : ℕ) (rs : List (List ℕ)) → 0 < length rs → differ d (map slot_key rs) ≡ true
     → All (λ q. undecided q < undecided (map slot_key rs)) (parts d (map slot_key rs))

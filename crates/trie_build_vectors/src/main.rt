@@ -68,9 +68,7 @@ fn level(
         print_split(console, &s[SLOTS..end], tau, above);
     }
     let size = trie_build::build::build_level(s, 0, SLOTS, SCRATCH, n, tau);
-    for b in s.iter().take(size) {
-        console.print_hex(*b);
-    }
+    console.print_hex(&s[..size]);
     console.print(b"\n");
 }
 

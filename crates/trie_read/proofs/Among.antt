@@ -39,9 +39,6 @@ pub record Among (x : Key) (b : List ℕ) (all : List Key) : Type 0 where
   pub bytes : b ≡ suffixes_bytes left
   pub same : among x left ≡ among x all
 
-pub among_start : (x : Key) (b : List ℕ) (ts : List Key) → All Fixed ts → b ≡ suffixes_bytes ts → Among x b ts
-among_start x b ts a e = record { left = ts; fixed = a; bytes = e; same = refl }
-
 among_cons : (x t : Key) (ts : List Key) → among x (t ∷ ts) ≡ same_key x t || among x ts
 unfolding among any
 among_cons x t ts = refl

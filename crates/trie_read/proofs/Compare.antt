@@ -19,16 +19,6 @@ use Rattle.trie_theory.specs.Strings.{begins, common, first}
 use Rattle.trie_theory.specs.Dimensions.{root, below, branching}
 use Rattle.trie_theory.proofs.Strings.{first_at}
 
-pub begins_short : (p s : List ℕ) → length s < length p → begins p s ≡ false
-unfolding begins
-begins_short [] s h = absurd (omega arith)
-begins_short (a ∷ p) [] h = refl
-begins_short (a ∷ p) (b ∷ s) h = go (eqb a b) (begins_short p s (omega arith))
-  where
-    go : (t : Bool) → begins p s ≡ false → t && begins p s ≡ false
-    go true e = e
-    go false e = refl
-
 pub begins_length : (p s : List ℕ) → begins p s ≡ true → length p ≤ length s
 unfolding begins
 begins_length [] s e = omega arith
@@ -88,16 +78,6 @@ pub first_missing : (s : List ℕ) → None ≡ slice_get s 0 → 256 ≡ first 
 unfolding first
 first_missing [] e = refl
 first_missing (x ∷ s) e = absurd cc
-
-pub first_none : (s : List ℕ) → length s ≡ 0 → first 0 (s ∷ []) ≡ 256
-unfolding first
-first_none [] h = refl
-first_none (b ∷ s) h = absurd (omega arith)
-
-pub first_some : (s : List ℕ) → (length s ≡ 0 → ⊥) → first 0 (s ∷ []) ≡ get_or s 0 0
-unfolding first
-first_some [] h = absurd (h refl)
-first_some (b ∷ s) h = refl
 
 -- ---- the branching byte
 

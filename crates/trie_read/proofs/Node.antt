@@ -7,7 +7,7 @@ use mathlib.Core.List.{List, [], ◌∷◌, ◌++◌, append_assoc, append-nil, 
 use native.Mathlib.Omega.{arith}
 use lib.ListN.{length, get_or, take, length-append}
 use lib.Seq.{take_at}
-use Rattle.std.specs.Prelude.{Option, Some, None, Result, Ok, Err}
+use Rattle.std.specs.Prelude.{Option, Some, None, Result, Ok}
 use Rattle.buffer.specs.Splice.{region}
 use Rattle.buffer.specs.Numbers.{bytes_of, number}
 use Rattle.buffer.proofs.Digits.{length_bytes_of, number_bytes_of}
@@ -271,6 +271,3 @@ module _ {r : Result (Option Node) Malformed} (f : Forest) (e : head_told r ≡ 
 
   pub told_some : (n : Node) → r ≡ Ok (Some n) → Some (head_in n) ≡ head_of f
   told_some n q = let z : Ok (Some (head_in n)) ≡ Ok (head_of f) = rw q at e in cc
-
-  pub told_err : (m : Malformed) → r ≡ Err m → ⊥
-  told_err m q = let z : Err m ≡ Ok (head_of f) = rw q at e in cc

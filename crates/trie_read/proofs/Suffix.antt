@@ -4,16 +4,14 @@ use Prim.Native.Nat.{ℕ, ◌+◌, ◌≤◌}
 use mathlib.Core.List.{List, [], ◌∷◌, ◌++◌, append_assoc, map}
 use native.Mathlib.Omega.{arith}
 use lib.ListN.{length, get_or, take, length-append}
-use Rattle.std.specs.Prelude.{Option, Some, None, Result, Ok, Err}
-use Rattle.trie_read.specs.declared.head.Malformed.{Malformed}
-use Rattle.trie_read.specs.declared.suffixes.Suffix.{Suffix}
+use Rattle.std.specs.Prelude.{Some, None}
 use Rattle.trie_theory.specs.Forest.{Strings, Key}
 use Rattle.buffer.specs.Lists.{All, cons, flat}
 use Rattle.trie_theory.specs.Strings.{at}
 use Rattle.trie_theory.specs.Encode.{suffix_bytes}
 use Rattle.trie_read.proofs.Stretch.{part_at, part_end, cut, cut_last}
 use Rattle.trie_read.specs.Shape.{part, Fixed}
-use Rattle.trie_read.specs.Suffixes.{suffixes_bytes, Tail, tail_of, tail_in, tail_told}
+use Rattle.trie_read.specs.Suffixes.{suffixes_bytes, Tail, tail_of}
 
 -- the two lengths and the reference
 abbrev pub lead : Strings → List ℕ → List ℕ
@@ -147,15 +145,3 @@ tail_at (t ∷ ts) x (cons w a) e =
       reference_is = ap (λ (y : Tail). y.reference) q;
       rest_is = ap (λ (y : Tail). y.rest) q;
     }
-
--- ---- what was read, at each outcome
-
-module _ {r : Result (Option Suffix) Malformed} (ts : List Key) (e : tail_told r ≡ Ok (tail_of ts)) where
-  pub tail_none : r ≡ Ok None → None ≡ tail_of ts
-  tail_none q = let z : Ok None ≡ Ok (tail_of ts) = rw q at e in cc
-
-  pub tail_some : (x : Suffix) → r ≡ Ok (Some x) → Some (tail_in x) ≡ tail_of ts
-  tail_some x q = let z : Ok (Some (tail_in x)) ≡ Ok (tail_of ts) = rw q at e in cc
-
-  pub tail_err : (m : Malformed) → r ≡ Err m → ⊥
-  tail_err m q = let z : Err m ≡ Ok (tail_of ts) = rw q at e in cc

@@ -84,9 +84,6 @@ pub record Walk (t v p r : List ℕ) (above : Option Dimension) (f : Forest) (x 
   pub bytes : t ≡ encode over
   pub same : member (above_of above) over (key_of v p r) ≡ member root f x
 
-pub walk_start : (t v p r : List ℕ) (f : Forest) → Regular 2 f → t ≡ encode f → Walk t v p r None f (key_of v p r)
-walk_start t v p r f h e = record { over = f; shaped = h; bytes = e; same = refl }
-
 module _ {t v p r : List ℕ} {above : Option Dimension} {f : Forest} {x : Key} (w : Walk t v p r above f x) where
   pub walk_end : None ≡ head_of w.over → false ≡ member root f x
   walk_end e = sym (ap (λ (g : Forest). member (above_of above) g (key_of v p r)) (head_end w.over e) ∙ nothing (above_of above) (key_of v p r)) ∙ w.same

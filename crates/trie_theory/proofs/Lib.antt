@@ -10,7 +10,6 @@ pub mod Keys
 pub mod Search
 pub mod Walk
 pub mod SoundLaws
-pub mod NodeStrings
 pub mod Lookup
 pub mod Encode
 -- Levels

@@ -29,12 +29,6 @@ const REGION_SIZE: usize = 65536;
 // The most that an addition adds beside the key's bytes: a leaf and a parent.
 const GROWTH: usize = LEAF_SIZE + HEAD_SIZE;
 
-fn print_hex(console: &mut Console, s: &[u8]) {
-    for b in s {
-        console.print_hex(*b);
-    }
-}
-
 fn is_plain(b: u8) -> bool {
     b > b' ' && b < 127 && b != b'"' && b != b'%'
 }
@@ -46,7 +40,7 @@ fn print_byte(console: &mut Console, b: u8) {
         return;
     }
     console.print(b"%");
-    console.print_hex(b);
+    console.print_hex(&[b]);
 }
 
 fn print_path(console: &mut Console, s: &[u8]) {
@@ -75,7 +69,7 @@ fn print_kind(console: &mut Console, kind: Kind) {
 fn print_node(console: &mut Console, node: &Node<'_>, indent: usize) {
     print_indent(console, indent);
     print_kind(console, node.kind);
-    print_hex(console, node.value);
+    console.print_hex(node.value);
     print_path(console, node.path);
     console.print(b"\n");
 }
@@ -83,10 +77,10 @@ fn print_node(console: &mut Console, node: &Node<'_>, indent: usize) {
 fn print_suffix(console: &mut Console, suffix: &Suffix<'_>, indent: usize) {
     print_indent(console, indent);
     console.print(b"- ");
-    print_hex(console, suffix.value);
+    console.print_hex(suffix.value);
     print_path(console, suffix.path);
     console.print(b" ");
-    print_hex(console, suffix.reference);
+    console.print_hex(suffix.reference);
     console.print(b"\n");
 }
 
