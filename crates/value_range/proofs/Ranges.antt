@@ -2,7 +2,7 @@
 use mathlib.Core.Path.{◌≡◌, refl, sym, ap, subst, ◌∙◌}
 use mathlib.Core.Bool.{true, false, cond, ◌&&◌, and_comm}
 use Prim.Native.Nat.{ℕ, zero, suc, ◌+◌, ◌-◌, ◌*◌, ◌/◌, ◌^◌, ◌≤◌, ◌<◌}
-use mathlib.Core.List.{List, [], ◌∷◌, ◌++◌, append-nil}
+use mathlib.Core.List.{List, [], ◌∷◌, ◌++◌}
 use native.Mathlib.Omega.{arith}
 use native.Mathlib.Nat.{add-mul, one-mul, mul_assoc, le-div_iff_mul-le, div-lt_iff_lt-mul, one-le-pow, zero-lt-suc, pow-suc, pow-le-pow_right, div-eq_of_lt, lt_of_lt_of_le}
 use lib.ListN.{length, take, drop, get_or, replicate, length-append, length-replicate}
@@ -111,10 +111,6 @@ module _ (q : Query) (k s : List ℕ) (from to : ℕ) (spans-s : Spans q k (leng
   with_above h = rw (with_span, and_false (leb from (number s)) (leb (number s) to) (lt-leb (number s) to h))
 
 -- ---- one byte more
-
-pub none_more : (k s : List ℕ) → length s ≡ 0 → k ≡ k ++ take 1 s
-none_more k [] e = sym (append-nil k)
-none_more k (b ∷ s) e = absurd (omega arith)
 
 pub one_long : (s : List ℕ) → (length s ≡ 0 → ⊥) → length (take 1 s) ≡ 1
 one_long s f = length-take-le 1 s (omega arith)

@@ -1,8 +1,8 @@
--- Each turn finds the key of one suffix, or passes it (`Finding`), and what is left is shorter.
+-- Each turn finds the key of one suffix, or passes it (`Going`), and what is left is shorter.
 use borrow.Author.Tests.{ltb-true}
 use native.Mathlib.Omega.{arith}
 use Prim.Native.Nat.{ℕ, ◌+◌, ◌-◌}
-use mathlib.Core.Path.{◌≡◌, refl, sym, ◌∙◌}
+use mathlib.Core.Path.{◌≡◌, sym, ◌∙◌}
 use mathlib.Core.Bool.{true, ◌&&◌}
 use mathlib.Core.List.{List}
 use lib.ListN.{length, take}
@@ -16,7 +16,7 @@ use Rattle.entries.specs.Slots.{slot_size}
 use Rattle.trie_theory.specs.Strings.{at}
 use Rattle.gather.specs.Walks.{known_strings}
 use Rattle.search.proofs.Steps.{span_kept, known_span, known_long, tail_value}
-use Rattle.search.proofs.Finding.{finding_from, finding_end, suffixes_end, suffixes_above, suffixes_put, suffixes_pass}
+use Rattle.search.proofs.Finding.{going_start, going_done, suffixes_end, suffixes_above, suffixes_put, suffixes_pass}
 use Rattle.search.proofs.walk.suffixes.Goals.{then-take_key, else-take_key}
 use Rattle.search.proofs.walk.suffixes.Goals as goal
 
@@ -25,11 +25,11 @@ row_long : (k : List ℕ) → length k ≡ slot_size → length (take row_size k
 row_long k e = length-take-le row_size k (omega arith)
 
 pub loop-suffix-init : goal.loop-suffix-init
-loop-suffix-init c = (omega arith, omega arith, refl, finding_from (λ ks e h. h))
+loop-suffix-init c = going_start c.told-key
 
 -- the first suffix lies above the range
-pub returns-then-is_above-clause-searched : goal.returns-then-is_above-clause-searched
-returns-then-is_above-clause-searched c =
+pub returns-then-is_above : goal.returns-then-is_above
+returns-then-is_above c =
     let a = c.args in
     let x = a.known in
     let suffix = c.in-Some.suffix in
@@ -38,12 +38,15 @@ returns-then-is_above-clause-searched c =
     let told : eqb (x.value + length suffix.value.now) value_size && ltb to n ≡ true = rw (tail_part 22 c.loop-suffix.t.now, tail_value c.in-Some.ensures.within) at (sym c.is_above.ensures) ∙ c.if-is_above.true in
     let long = length-take-le x.value a.key.now (omega (arith, x.value_fits)) in
     let whole : length (at 0 (known_strings x a.key.now)) + (value_size - x.value) ≡ value_size = omega (arith, long, known_long x.value x.path a.key.now, x.value_fits) in
-    finding_end c.loop-suffix.invariant.3
+    going_done c.loop-suffix.invariant
     (suffixes_above c.first_suffix.ensures.value suffix c.in-Some.is (known_span x.value x.path a.key.now (c.span_behind-rest.ensures a.q.now.pattern.now)) whole
     (ltb-true to n (and_right (eqb (x.value + length suffix.value.now) value_size) (ltb to n) told)))
 
 pub put-requires : goal.put-requires
-put-requires c = rw (row_long c.take_key.new.key (omega arith)) (omega (arith, c.requires.fits))
+put-requires c =
+    let i = c.loop-suffix.invariant in
+    let ready = c.requires in
+    rw (row_long c.take_key.new.key c.take_key.array_long) (omega (arith, ready.fits, i.room, i.finding.rows.long), omega (arith, ready.few, i.few_rows, c.in-Some.ensures.within.long))
 
 pub take_key-requires : goal.take_key-requires
 take_key-requires c =
@@ -57,23 +60,14 @@ loop-suffix-preserved c =
     let x = a.known in
     let is = c.first_suffix.ensures.value in
     let e = c.in-Some.is in
-    let rest = span_kept x.value x.path a.key.now _ (c.span_behind-rest.ensures a.q.now.pattern.now) l.invariant.3.rows.kept in
+    let long = c.in-Some.ensures.within.long in
+    let rest = span_kept x.value x.path a.key.now _ (c.span_behind-rest.ensures a.q.now.pattern.now) l.invariant.finding.rows.kept in
     let taken = c.take_key.ensures rest in
     elim c.if-take_key.branch [
-      | then-take_key y ↦ (
-        omega (arith, c.in-Some.ensures.within),
-        omega arith,
-        rw y.answer-is (y.put.auto.answer ∙ l.invariant.2),
-        rw (y.answer-is, y.m-is)
-            (suffixes_put l.invariant.3 is _ e taken _ (omega (arith, c.requires.fits)) y.if-take_key.true (rw (row_long c.take_key.new.key (omega arith)) at y.put.ensures)),
-      )
-      | else-take_key y ↦ (
-        omega (arith, c.in-Some.ensures.within),
-        omega arith,
-        rw y.answer-is l.invariant.2,
-        rw (y.answer-is, y.m-is) (suffixes_pass l.invariant.3 is _ e taken y.if-take_key.false),
-      )
+      | then-take_key y ↦ rw y.output-is
+          (suffixes_put l.invariant is _ e long taken c.take_key.array_long c.requires.fits y.if-take_key.true (rw (row_long c.take_key.new.key (omega arith)) at y.put.ensures))
+      | else-take_key y ↦ rw y.output-is (suffixes_pass l.invariant is _ e long taken c.take_key.array_long y.if-take_key.false)
     ]
 
-pub returns-clause-searched : goal.returns-clause-searched
-returns-clause-searched c = finding_end c.loop-suffix.invariant.3 (suffixes_end c.first_suffix.ensures.value c.in_default.is)
+pub returns : goal.returns
+returns c = going_done c.loop-suffix.invariant (suffixes_end c.first_suffix.ensures.value c.in_default.is)
