@@ -19,7 +19,7 @@ use trie_read::head::{Node, first_node};
 use trie_read::kind::{Dimension, Kind};
 use trie_read::sizes::SUFFIX_SIZE;
 use trie_read::suffixes::first_suffix;
-use value_range::value::{is_above, span_behind};
+use value_range::value::{first_number, span_behind};
 
 // Rows found, and nodes entered.
 #[derive(Clone, Copy)]
@@ -42,12 +42,15 @@ fn suffixes(
     let rest = span_behind(q.range, &key[..known.value], VALUE_SIZE - known.value);
     let mut t = body;
     while let Some(suffix) = first_suffix(t) {
-        let tail = &t[SUFFIX_SIZE..];
-        if is_above(rest, known.value, tail, suffix.value.len()) {
-            return; // values do not descend in a leaf
-        }
-        if take_key(q, key, known, &suffix, tail, rest) {
-            output.put(&key[..ROW_SIZE]);
+        let n = suffix.value.len();
+        if known.value + n == VALUE_SIZE {
+            let x = first_number(&t[SUFFIX_SIZE..], n);
+            if rest.to < x {
+                return; // values do not descend in a leaf
+            }
+            if take_key(q, key, known, &suffix, x, rest) {
+                output.put(&key[..ROW_SIZE]);
+            }
         }
         t = suffix.rest;
     }
