@@ -20,6 +20,7 @@ use Rattle.trie_theory.specs.Forest.{Strings, Key, join, under}
 use Rattle.trie_theory.specs.Strings.{at}
 use Rattle.trie_theory.specs.Sound.{Rising}
 use Rattle.trie_theory.proofs.Strings.{at_join}
+use Rattle.entries.specs.Slots.{slot_size}
 use Rattle.entries.specs.Query.{Query, value_reach, is_match, wants}
 use Rattle.trie_read.specs.Shape.{Fixed}
 use Rattle.trie_read.specs.Suffixes.{suffixes_bytes, tail_of, tail_in}
@@ -27,13 +28,15 @@ use Rattle.trie_read.specs.declared.suffixes.Suffix.{Suffix}
 use Rattle.trie_read.proofs.Suffix.{Seen, tail_end, tail_at}
 use Rattle.gather.specs.KeySlots.{has_slot, key_slot, known, suffix_key}
 use Rattle.gather.specs.Walks.{Put, known_strings}
+use Rattle.gather.specs.Outputs.{RowPut}
 use Rattle.gather.specs.declared.known.Known.{Known}
+use Rattle.gather.specs.declared.output.Output.{Output}
 use Rattle.gather.proofs.Filling.{slotted}
 pub use Rattle.gather.proofs.Filling.{length_row}
 use Rattle.gather.proofs.Putting.{put_none, put_then, put_one}
 use Rattle.gather.proofs.Splitting.{pick_one, pick_not, seen_key}
 use Rattle.search.specs.Steps.{takes, key_row, Taken}
-use Rattle.search.specs.Searches.{OfPath, Searched, SuffixesFound}
+use Rattle.search.specs.Searches.{OfPath, Searched, SuffixesFound, Walked}
 use Rattle.value_range.specs.Spans.{Spans}
 use Rattle.value_range.proofs.Ranges.{with_above}
 use Rattle.search.proofs.Steps.{key_path}
@@ -123,6 +126,24 @@ module _ {Has : List Key → ℕ → Type 0} {v p room n c : ℕ} {s k : List �
                 sum = omega (arith, r.sum, t.sum, z.1);
               };
         }
+
+-- the same of a walk's output, where the bytes t are left
+pub record Going (Has More : List Key → ℕ → Type 0) (x : Known) (t₀ t : List ℕ) (o₀ o : Output) (k₀ k : List ℕ) (d : ℕ) : Type 0 where
+  pub few_rows : o.rows + length t ≤ o₀.rows + length t₀
+  pub few_nodes : d + length t ≤ length t₀
+  pub room : o.room ≡ o₀.room
+  pub same_reference : o.bytes.ghost_name ≡ o₀.bytes.ghost_name
+  pub long : length k ≡ slot_size
+  pub finding : Finding Has More x.value x.path o₀.room o₀.rows 0 o₀.bytes.now k₀ o.bytes.now k o.rows d
+
+module _ {Has : List Key → ℕ → Type 0} {x : Known} {t₀ : List ℕ} {o₀ : Output} {k₀ : List ℕ} where
+  pub going_start : length k₀ ≡ slot_size → Going Has Has x t₀ t₀ o₀ o₀ k₀ k₀ 0
+  going_start long = record { few_rows = omega arith; few_nodes = omega arith; room = refl; same_reference = refl; long = long; finding = finding_from (λ ks e h. h) }
+
+  pub going_done : {More : List Key → ℕ → Type 0} {t : List ℕ} {o : Output} {k : List ℕ} {d : ℕ} → Going Has More x t₀ t o₀ o k₀ k d
+      → ((ks : List Key) (e : ℕ) → More ks e → (ks ≡ []) × (e ≡ 0)) → Walked Has x t₀ o₀ o k₀ k d
+  going_done l h =
+      record { few_rows = omega (arith, l.few_rows); few_nodes = omega (arith, l.few_nodes); room = l.room; same_reference = l.same_reference; searched = finding_end l.finding h }
 
 -- no key and no node
 pub searched_none : {Has : List Key → ℕ → Type 0} {v p room n c : ℕ} {s k k' : List ℕ} → known v p k' ≡ known v p k
@@ -237,30 +258,48 @@ module _ {q : Query} {k : Strings} {t : List ℕ} {r : Option Suffix} (is : (us 
           sum = s.entered;
         }
 
-module _ {Has : List Key → ℕ → Type 0} {q : Query} {y : Known} {room n c : ℕ} {s₀ k₀ s k t : List ℕ} {m d : ℕ}
-    (l : Finding Has (SuffixesFound q (known_strings y k₀) t) y.value y.path room n c s₀ k₀ s k m d) {r : Option Suffix}
+module _ {Has : List Key → ℕ → Type 0} {q : Query} {y : Known} {t₀ t k₀ k : List ℕ} {o₀ o : Output} {d : ℕ}
+    (l : Going Has (SuffixesFound q (known_strings y k₀) t) y t₀ t o₀ o k₀ k d) {r : Option Suffix}
     (is : (us : List Key) → All Fixed us → t ≡ suffixes_bytes us → option_map tail_in r ≡ tail_of us)
-    (x : Suffix) (e : r ≡ Some x) {k' : List ℕ} {b : Bool} (taken : Taken q y x.value.now x.path.now x.reference.now k k' b) where
+    (x : Suffix) (e : r ≡ Some x) (inside : length t ≡ 22 + length x.value.now + length x.path.now + length x.rest.now)
+    {k' : List ℕ} {b : Bool} (taken : Taken q y x.value.now x.path.now x.reference.now k k' b) (long : length k' ≡ slot_size) where
   abbrev of_key : Strings → Key
   of_key z = suffix_key z x.value.now x.path.now x.reference.now
 
   now_key : of_key (known_strings y k) ≡ of_key (known_strings y k₀)
-  now_key = ap of_key l.rows.kept
+  now_key = ap of_key l.finding.rows.kept
 
   now_path : OfPath (of_key (known_strings y k₀)) → FirstBytes (region k path_at y.path ++ x.path.now)
   now_path f = subst FirstBytes (ap (λ (z : Key). at 1 z.strings) (sym now_key) ∙ key_path y.value y.path k x.value.now x.path.now x.reference.now) f
 
-  pub suffixes_put : (s' : List ℕ) → room * row_size ≤ length s → b ≡ true → s' ≡ cond (ltb m room) (splice s (m * row_size) (take row_size k')) s
-      → Finding Has (SuffixesFound q (known_strings y k₀) x.rest.now) y.value y.path room n c s₀ k₀ s' k' (m + 1) d
+  pub suffixes_put : {o' : Output} → o₀.room * row_size ≤ length o₀.bytes.now → b ≡ true → RowPut row_size (take row_size k') o o'
+      → Going Has (SuffixesFound q (known_strings y k₀) x.rest.now) y t₀ x.rest.now o₀ o' k₀ k' d
   unfolding key_row
-  suffixes_put s' fits h w =
+  suffixes_put {o'} fits h w =
       let z = of_key (known_strings y k₀) in
       let has : OfPath z → takes q z ≡ true = λ f. ap (takes q) (sym now_key) ∙ sym (taken.is (now_path f)) ∙ h in
       let row : take row_size k' ≡ key_row z = ap (take row_size) (taken.slot h ∙ ap key_slot now_key) in
-      finding_on l (searched_one q z s s' (ap has_slot (sym now_key) ∙ taken.fits h) has fits (rw row at w) taken.kept) (suffixes_split is x e)
+      let room : o₀.room * row_size ≤ length o.bytes.now = omega (arith, fits, l.finding.rows.long) in
+      let few = l.few_nodes in
+      record {
+        few_rows = omega (arith, l.few_rows, w.rows, inside);
+        few_nodes = omega (arith, few, inside);
+        room = w.room ∙ l.room;
+        same_reference = w.same_reference ∙ l.same_reference;
+        long = long;
+        finding = rw w.rows
+            (finding_on l.finding (searched_one q z o.bytes.now o'.bytes.now (ap has_slot (sym now_key) ∙ taken.fits h) has room (rw (l.room, row) at w.bytes) taken.kept) (suffixes_split is x e));
+      }
 
-  pub suffixes_pass : b ≡ false → Finding Has (SuffixesFound q (known_strings y k₀) x.rest.now) y.value y.path room n c s₀ k₀ s k' m d
+  pub suffixes_pass : b ≡ false → Going Has (SuffixesFound q (known_strings y k₀) x.rest.now) y t₀ x.rest.now o₀ o k₀ k' d
   suffixes_pass h =
       let z = of_key (known_strings y k₀) in
       let has : OfPath z → takes q z ≡ false = λ f. ap (takes q) (sym now_key) ∙ sym (taken.is (now_path f)) ∙ h in
-      finding_on l (searched_none {Has = OneKey q z} taken.kept (λ ks a u. (u.1 ∙ pick_not (takes q) z (has u.0), u.2))) (suffixes_split is x e)
+      record {
+        few_rows = omega (arith, l.few_rows);
+        few_nodes = omega (arith, l.few_nodes);
+        room = l.room;
+        same_reference = l.same_reference;
+        long = long;
+        finding = finding_on l.finding (searched_none {Has = OneKey q z} taken.kept (λ ks a u. (u.1 ∙ pick_not (takes q) z (has u.0), u.2))) (suffixes_split is x e);
+      }

@@ -36,13 +36,14 @@ use Rattle.trie_read.proofs.Node.{leaf_view, inner_view, head_end, kind?}
 use Rattle.gather.specs.KeySlots.{ended_limit, has_room, known}
 use Rattle.gather.specs.Walks.{known_strings}
 use Rattle.gather.specs.declared.known.Known.{Known}
+use Rattle.gather.specs.declared.output.Output.{Output}
 use Rattle.gather.proofs.Filling.{known_less}
 use Rattle.gather.proofs.Splitting.{leaf_high, inner_high}
 use Rattle.search.specs.Steps.{takes, OneByte, Descended}
-use Rattle.search.specs.Searches.{Searched, SuffixesFound, TriesFound, BodyFound, Short, AtNode}
+use Rattle.search.specs.Searches.{SuffixesFound, TriesFound, BodyFound, Walked, Short, AtNode}
 use Rattle.search.proofs.Steps.{node_path}
 use Rattle.search.proofs.Nodes.{found_none, found_low, leaf_in, leaf_out, inner_in, inner_out, none_in, tops_sound, leaf_sound, inner_sound, leaf_roomy, inner_roomy, leaf_keys, inner_keys}
-use Rattle.search.proofs.Finding.{Finding, finding_on, finding_less, finding_end, Parts, searched_none}
+use Rattle.search.proofs.Finding.{finding_on, finding_less, Going, going_done, Parts, searched_none}
 
 -- ---- tries
 
@@ -231,16 +232,17 @@ and-true a b e = rw e
 
 -- ---- the turn over siblings
 
-module _ {Has : List Key → ℕ → Type 0} {q : Query} (above : Option Dimension) {depth : ℕ} (y : Known) {room n c : ℕ} {s₀ k₀ s k t : List ℕ} {m d : ℕ}
-    (l : Finding Has (TriesFound q (above_of above) depth (known_strings y k₀) t) y.value y.path room n c s₀ k₀ s k m d) {r : Option Node}
-    (is : (f : Forest) → Regular 2 f → t ≡ encode f → option_map head_in r ≡ head_of f) (x : Node) (e : r ≡ Some x) where
+module _ {Has : List Key → ℕ → Type 0} {q : Query} (above : Option Dimension) {depth : ℕ} (y : Known) {t₀ t k₀ k : List ℕ} {o₀ o : Output} {m : ℕ}
+    (l : Going Has (TriesFound q (above_of above) depth (known_strings y k₀) t) y t₀ t o₀ o k₀ k m) {r : Option Node}
+    (is : (f : Forest) → Regular 2 f → t ≡ encode f → option_map head_in r ≡ head_of f) (x : Node) (e : r ≡ Some x)
+    (inside : length t ≡ 7 + length x.value.now + length x.path.now + length x.body.now + length x.rest.now) where
   enters_now : enters (reaches q) (above_of above) (known_strings y k) (node_strings x) ≡ enters (reaches q) (above_of above) (known_strings y k₀) (node_strings x)
-  enters_now = ap (λ (z : Strings). enters (reaches q) (above_of above) z (node_strings x)) l.rows.kept
+  enters_now = ap (λ (z : Strings). enters (reaches q) (above_of above) z (node_strings x)) l.finding.rows.kept
 
   -- the path known there
   now_first : AtNode (join (known_strings y k₀) (node_strings x)) → FirstBytes (region k path_at y.path ++ x.path.now)
   now_first h =
-      subst FirstBytes (ap (λ (z : Strings). at 1 (join z (node_strings x))) (sym l.rows.kept) ∙ node_path y.value y.path k x.value.now x.path.now) h.1
+      subst FirstBytes (ap (λ (z : Strings). at 1 (join z (node_strings x))) (sym l.finding.rows.kept) ∙ node_path y.value y.path k x.value.now x.path.now) h.1
 
   module _ {k₁ : List ℕ} {u : Known} (down : Descended q above y x.value.now x.path.now k k₁ (Some u)) where
     -- the node is entered
@@ -248,78 +250,101 @@ module _ {Has : List Key → ℕ → Type 0} {q : Query} (above : Option Dimensi
     entered_now h = sym enters_now ∙ and_right (has_room y.value y.path x.value.now x.path.now) _ (sym (down.is (now_first h)))
 
     -- what is found below it
-    abbrev Lower : (s' k' : List ℕ) (m' d' : ℕ) → Type 0
-    Lower s' k' m' d' = Searched (BodyFound q x.kind (depth - 1) (known_strings u k₁) x.body.now) u.value u.path room m (d + 1) s k₁ s' k' m' d'
+    abbrev Lower : (o' : Output) (k' : List ℕ) (n : ℕ) → Type 0
+    Lower o' k' n = Walked (BodyFound q x.kind (depth - 1) (known_strings u k₁) x.body.now) u x.body.now o o' k₁ k' n
 
-    siblings_later : {s' k' : List ℕ} {m' d' : ℕ} → Lower s' k' m' d'
-        → Finding Has (Later q (above_of above) depth (known_strings y k₀) (node_strings x) x.rest.now) y.value y.path room n c s₀ k₀ s' k' m' d'
-    siblings_later {k' = k'} i =
-        let below = down.deeper.joins ∙ ap (λ (z : Strings). join z (node_strings x)) l.rows.kept in
-        finding_on l
-        (record {
-          rows = record {
-            put = i.rows.put;
-            fit = i.rows.fit;
-            count = i.rows.count;
-            long = i.rows.long;
-            writes = i.rows.writes;
-            front = i.rows.front;
-            kept = known_less y.value y.path u.value u.path k' k₁ (omega (arith, down.deeper.value_is)) (omega (arith, down.deeper.path_is)) i.rows.kept ∙ down.kept;
-            are = λ ks z. absurd z;
-          };
-          nodes = 1 + i.nodes;
-          count = omega (arith, i.count);
-          are = λ ks a o. let z = i.are ks o.below (rw below o.has) in (z.0, omega (arith, z.1, o.is));
-        })
-        (λ ks a h. tries_in is x e (entered_now (tries_node is x e ks a h)) ks a h)
+    siblings_later : {o' : Output} {k' : List ℕ} {n : ℕ} → length k' ≡ slot_size → Lower o' k' n
+        → Going Has (Later q (above_of above) depth (known_strings y k₀) (node_strings x) x.rest.now) y t₀ x.rest.now o₀ o' k₀ k' (m + (1 + n))
+    siblings_later {k' = k'} long i =
+        let below = down.deeper.joins ∙ ap (λ (z : Strings). join z (node_strings x)) l.finding.rows.kept in
+        let w = rw l.room at i.searched in
+        record {
+          few_rows = omega (arith, l.few_rows, i.few_rows);
+          few_nodes = omega (arith, l.few_nodes, i.few_nodes);
+          room = i.room ∙ l.room;
+          same_reference = i.same_reference ∙ l.same_reference;
+          long = long;
+          finding = finding_on l.finding
+              (record {
+                rows = record {
+                  put = w.rows.put;
+                  fit = w.rows.fit;
+                  count = w.rows.count;
+                  long = w.rows.long;
+                  writes = w.rows.writes;
+                  front = w.rows.front;
+                  kept = known_less y.value y.path u.value u.path k' k₁ (omega (arith, down.deeper.value_is)) (omega (arith, down.deeper.path_is)) w.rows.kept ∙ down.kept;
+                  are = λ ks z. absurd z;
+                };
+                nodes = 1 + w.nodes;
+                count = omega (arith, w.count);
+                are = λ ks a o. let z = w.are ks o.below (rw below o.has) in (z.0, omega (arith, z.1, o.is));
+              })
+              (λ ks a h. tries_in is x e (entered_now (tries_node is x e ks a h)) ks a h);
+        }
 
-    pub siblings_in : {s' k' : List ℕ} {m' d' : ℕ} → Lower s' k' m' d'
-        → Finding Has (TriesFound q (above_of above) depth (known_strings y k₀) x.rest.now) y.value y.path room n c s₀ k₀ s' k' m' d'
-    siblings_in i = finding_less (siblings_later i) (λ ks a h. h.found)
+    pub siblings_in : {o' : Output} {k' : List ℕ} {n : ℕ} → length k' ≡ slot_size → Lower o' k' n
+        → Going Has (TriesFound q (above_of above) depth (known_strings y k₀) x.rest.now) y t₀ x.rest.now o₀ o' k₀ k' (m + (1 + n))
+    siblings_in long i =
+        let g = siblings_later long i in
+        record { few_rows = g.few_rows; few_nodes = g.few_nodes; room = g.room; same_reference = g.same_reference; long = g.long; finding = finding_less g.finding (λ ks a h. h.found) }
 
     -- and no other will be
-    pub siblings_done : {s' k' : List ℕ} {m' d' : ℕ} → Lower s' k' m' d' → OneByte q (above_of above) (known_strings y k₀) → Searched Has y.value y.path room n c s₀ k₀ s' k' m' d'
-    siblings_done i one = finding_end (siblings_later i) (none_later one (node_strings x))
+    pub siblings_done : {o' : Output} {k' : List ℕ} {n : ℕ} → length k' ≡ slot_size → Lower o' k' n → OneByte q (above_of above) (known_strings y k₀)
+        → Walked Has y t₀ o₀ o' k₀ k' (m + (1 + n))
+    siblings_done long i one = going_done (siblings_later long i) (none_later one (node_strings x))
 
   -- the node is passed: its strings have room, so a search does not enter it
-  pub siblings_past : {k₁ : List ℕ} → Descended q above y x.value.now x.path.now k k₁ None → length k₀ ≡ slot_size
-      → Finding Has (TriesFound q (above_of above) depth (known_strings y k₀) x.rest.now) y.value y.path room n c s₀ k₀ s k₁ m d
-  siblings_past down long =
-      finding_on l (searched_none {Has = λ ks a. (ks ≡ []) × (a ≡ 0)} down.kept (λ ks a h. h))
-      (λ ks a h. record {
-        first = [];
-        second = ks;
-        before = 0;
-        behind = a;
-        one = (refl, refl);
-        other = tries_out is x e (out ks a h) ks a h;
-        is = refl;
-        sum = omega arith;
-      })
+  pub siblings_past : {k₁ : List ℕ} → Descended q above y x.value.now x.path.now k k₁ None → length k₀ ≡ slot_size → length k₁ ≡ slot_size
+      → Going Has (TriesFound q (above_of above) depth (known_strings y k₀) x.rest.now) y t₀ x.rest.now o₀ o k₀ k₁ m
+  siblings_past down buffer long =
+      record {
+        few_rows = omega (arith, l.few_rows);
+        few_nodes = omega (arith, l.few_nodes);
+        room = l.room;
+        same_reference = l.same_reference;
+        long = long;
+        finding = finding_on l.finding (searched_none {Has = λ ks a. (ks ≡ []) × (a ≡ 0)} down.kept (λ ks a h. h))
+            (λ ks a h. record {
+              first = [];
+              second = ks;
+              before = 0;
+              behind = a;
+              one = (refl, refl);
+              other = tries_out is x e (out ks a h) ks a h;
+              is = refl;
+              sum = omega arith;
+            });
+      }
     where
       out : (ks : List Key) (a : ℕ) → TriesFound q (above_of above) depth (known_strings y k₀) t ks a → enters (reaches q) (above_of above) (known_strings y k₀) (node_strings x) ≡ false
       out ks a h =
           let node = tries_node is x e ks a h in
-          let room = short_room k₀ x.value.now x.path.now y long node.0 in
+          let room = short_room k₀ x.value.now x.path.now y buffer node.0 in
           sym enters_now ∙ sym (and-true (has_room y.value y.path x.value.now x.path.now) _ room) ∙ sym (down.is (now_first node))
 
 -- ---- a body
 
 -- of a leaf: its suffixes
-pub body_suffixes : {q : Query} {kind : Kind} (depth : ℕ) {v p room n c r : ℕ} {k₀ : Strings} {t s k s' k' : List ℕ} → kind ≡ Leaf
-    → Searched (SuffixesFound q k₀ t) v p room n 0 s k s' k' r 0 → Searched (BodyFound q kind depth k₀ t) v p room n c s k s' k' r c
-body_suffixes depth z i =
-    record { rows = i.rows; nodes = i.nodes; count = omega (arith, i.count); are = λ ks e b. i.are ks e (rw z at b) }
+pub body_suffixes : {q : Query} {kind : Kind} (depth : ℕ) {x : Known} {k₀ : Strings} {t k k' : List ℕ} {o o' : Output} {d : ℕ} → kind ≡ Leaf
+    → Walked (SuffixesFound q k₀ t) x t o o' k k' d → Walked (BodyFound q kind depth k₀ t) x t o o' k k' d
+body_suffixes depth z i = rw z i
 
 -- of an inner node: its children
-pub body_tries : {q : Query} {kind : Kind} {dimension : Dimension} {depth v p room n c r d : ℕ} {k₀ : Strings} {t s k s' k' : List ℕ} → kind ≡ Inner dimension
-    → Searched (TriesFound q (below (number_of dimension)) depth k₀ t) v p room n c s k s' k' r d → Searched (BodyFound q kind depth k₀ t) v p room n c s k s' k' r d
+pub body_tries : {q : Query} {kind : Kind} {dimension : Dimension} {depth : ℕ} {x : Known} {k₀ : Strings} {t k k' : List ℕ} {o o' : Output} {d : ℕ} → kind ≡ Inner dimension
+    → Walked (TriesFound q (below (number_of dimension)) depth k₀ t) x t o o' k k' d → Walked (BodyFound q kind depth k₀ t) x t o o' k k' d
 body_tries z i = rw z i
 
 -- tries of which no node is left to enter
-pub tries_low : {q : Query} {above : Above} {depth v p room n c : ℕ} {k₀ : Strings} {t s k : List ℕ} → depth ≡ 0
-    → Searched (TriesFound q above depth k₀ t) v p room n c s k s k n c
+pub tries_low : {q : Query} {above : Above} {depth : ℕ} {x : Known} {k₀ : Strings} {t k : List ℕ} {o : Output} → depth ≡ 0
+    → Walked (TriesFound q above depth k₀ t) x t o o k k 0
 tries_low {q} {above} {k₀ = k₀} d =
-    searched_none refl
-    (λ ks e w. let f = found_low (reaches q) (takes q) above k₀ w.tries (omega (arith, w.high)) in
-    (w.is ∙ f.0, w.entered ∙ f.1))
+    record {
+      few_rows = omega arith;
+      few_nodes = omega arith;
+      room = refl;
+      same_reference = refl;
+      searched = searched_none refl
+          (λ ks e w. let f = found_low (reaches q) (takes q) above k₀ w.tries (omega (arith, w.high)) in
+          (w.is ∙ f.0, w.entered ∙ f.1));
+    }

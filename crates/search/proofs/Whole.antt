@@ -20,12 +20,14 @@ use Rattle.trie_theory.specs.Encode.{Regular}
 use Rattle.entries.specs.Query.{Query, reaches, wants}
 use Rattle.trie_theory.proofs.Strings.{at_join}
 use Rattle.gather.specs.KeySlots.{has_slot, known}
+use Rattle.gather.specs.declared.known.Known.{Known}
+use Rattle.gather.specs.declared.output.Output.{Output}
 use Rattle.gather.proofs.Filling.{slotted}
 pub use Rattle.gather.proofs.Filling.{entry_row}
 use Rattle.gather.proofs.Gathering.{known_nothing}
 use Rattle.gather.proofs.Splitting.{join_longer, blank, keys_root}
 use Rattle.search.specs.Steps.{takes}
-use Rattle.search.specs.Searches.{OfPath, Searched, TrieSearched, TrieFound, TriesFound, AtNode, NodesFit}
+use Rattle.search.specs.Searches.{OfPath, TrieSearched, TrieFound, TriesFound, AtNode, NodesFit, Walked}
 
 -- ---- room
 
@@ -123,18 +125,19 @@ whole k {q} w =
       entered = w.entered ∙ sym (nodes_root (reaches q) f w.regular);
     }
 
-pub trie_searched : {q : Query} {t : List ℕ} {room n c : ℕ} {s k s' k' : List ℕ} {r d : ℕ} → Searched (TriesFound q root node_limit (known 0 0 k) t) 0 0 room n c s k s' k' r d
-    → r ≤ n + length t → d ≤ c + length t → TrieSearched q t room n c s s' r d
-trie_searched {k = k} i a b =
+pub trie_searched : {q : Query} {x : Known} {c d : ℕ} {t k k' s' : List ℕ} {o o' : Output} → Walked (TriesFound q root node_limit (known 0 0 k) t) x t o o' k k' d
+    → s' ≡ o'.bytes.now → TrieSearched q t o.room o.rows c o.bytes.now s' o'.rows (c + d)
+trie_searched {k = k} w new =
+    let i = w.searched in
     record {
       put = i.rows.put;
       nodes = i.nodes;
       fit = i.rows.fit;
       rows_are = i.rows.count;
-      nodes_are = i.count;
-      few_rows = a;
-      few_nodes = b;
-      long = i.rows.long;
-      writes = i.rows.writes;
-      are = λ ks e w. i.are ks e (whole k w);
+      nodes_are = omega (arith, i.count);
+      few_rows = w.few_rows;
+      few_nodes = omega (arith, w.few_nodes);
+      long = ap length new ∙ i.rows.long;
+      writes = new ∙ i.rows.writes;
+      are = λ ks e f. i.are ks e (whole k f);
     }

@@ -1,9 +1,8 @@
 -- What a search of tries in bytes finds: the keys, whose rows it writes, and the number of nodes entered. Assumes nothing: these are definitions.
-use Rattle.std.specs.Prelude.{ℕ, ◌+◌, ◌*◌, ◌<◌, ◌≤◌, ◌≡◌, true, List, [], map, length}
-use Rattle.buffer.specs.Sizes.{word_limit}
+use Rattle.std.specs.Prelude.{ℕ, ◌+◌, ◌≤◌, ◌≡◌, true, List, [], map, length}
 use Rattle.buffer.specs.Lists.{all, All, pick}
 use Rattle.matcher.specs.Continued.{FirstBytes}
-use Rattle.rows.specs.Sizes.{value_size, row_size, node_limit}
+use Rattle.rows.specs.Sizes.{value_size, node_limit}
 use Rattle.trie_theory.specs.Forest.{Strings, Key, Forest, none, leaf, inner, join, under, keys}
 use Rattle.trie_theory.specs.Strings.{at}
 use Rattle.trie_theory.specs.Dimensions.{Above, root, below}
@@ -19,6 +18,8 @@ use Rattle.trie_read.specs.declared.kind.Kind.TheVariants.{Leaf, Inner}
 use Rattle.trie_read.specs.Suffixes.{suffixes_bytes}
 use Rattle.gather.specs.KeySlots.{ended_limit, has_slot}
 use Rattle.gather.specs.Walks.{written, Put}
+use Rattle.gather.specs.declared.known.Known.{Known}
+use Rattle.gather.specs.declared.output.Output.{Output}
 use Rattle.search.specs.Steps.{takes, key_row}
 
 -- the path bytes of a key are the first of a formed path and its end byte; of an entry's key they are all of them
@@ -103,8 +104,10 @@ abbrev pub BodyFound : Query → Kind → (depth : ℕ) → Strings → (t : Lis
 BodyFound q Leaf depth k t ks e = SuffixesFound q k t ks e
 BodyFound q (Inner d) depth k t ks e = TriesFound q (below (number_of d)) depth k t ks e
 
--- what the walk asks for: room for as many rows in the answer, counters that do not overflow
-pub record Ready (t s : List ℕ) (room rows nodes : ℕ) : Type 0 where
-  pub fits : room * row_size ≤ length s
-  pub few_rows : rows + length t < word_limit
-  pub few_nodes : nodes + length t < word_limit
+-- What the walk over the bytes t does, where the bytes of x are known: no more rows than bytes are added to the output, and no more nodes, d, are entered
+pub record Walked (Has : List Key → ℕ → Type 0) (x : Known) (t : List ℕ) (o o' : Output) (k k' : List ℕ) (d : ℕ) : Type 0 where
+  pub few_rows : o'.rows ≤ o.rows + length t
+  pub few_nodes : d ≤ length t
+  pub room : o'.room ≡ o.room
+  pub same_reference : o'.bytes.ghost_name ≡ o.bytes.ghost_name
+  pub searched : Searched Has x.value x.path o.room o.rows 0 o.bytes.now k o'.bytes.now k' o'.rows d

@@ -2,6 +2,7 @@
 // of a leaf, is asked once; of a child or a suffix the value is asked first, and its bytes are copied only where they are needed. The form of paths is not
 // looked at: those of a store that our calls left are formed, and of other bytes nothing is said of an answer.
 ghost use Rattle.std.specs.Prelude.{◌≡◌, ◌&&◌, ℕ, ◌+◌, ◌-◌, ◌≤◌, ◌<◌, List, [], ◌∷◌, ◌++◌, length, take};
+ghost use Rattle.buffer.specs.Numbers.{number};
 ghost use Rattle.buffer.specs.Splice.{region, splice};
 ghost use Rattle.matcher.specs.Continued.{FirstBytes};
 ghost use Rattle.matcher.specs.Reach.{reach_of, goes_on};
@@ -25,7 +26,7 @@ use rows::sizes::{PATH_AT, VALUE_SIZE};
 use trie_read::head::Node;
 use trie_read::kind::Dimension;
 use trie_read::suffixes::Suffix;
-use value_range::value::{Span, span_behind, value_reach, value_with};
+use value_range::value::{Span, span_behind, value_reach, value_told, value_with};
 
 // The answer of both dimensions together.
 fn both(value: Answer, path: Answer) -> Answer
@@ -132,6 +133,8 @@ fn path_with(q: &Query<'_>, key: &mut [u8; SLOT_SIZE], p: usize, s: &[u8]) -> An
 }
 
 // The same, but most paths differ from the pattern where that has no wild byte yet: they are ruled out, and nothing is written.
+// In line: each child and each suffix is asked, most end at the first test, and as calls these two make a search up to a fifth slower (bench/index).
+#[inline(always)]
 fn path_answer(q: &Query<'_>, key: &mut [u8; SLOT_SIZE], p: usize, s: &[u8]) -> Answer
     requires { p + length s.now ≤ ended_limit + 1 }
     ensures value { FirstBytes (region key.old path_at p ++ s.now) → result ≡ reach_of q.now.pattern.now (region key.old path_at p ++ s.now) }
@@ -144,6 +147,7 @@ fn path_answer(q: &Query<'_>, key: &mut [u8; SLOT_SIZE], p: usize, s: &[u8]) -> 
 }
 
 // The answer of both dimensions, where the value is answered and the path has the bytes s more: it is asked where the value is no mismatch.
+#[inline(always)]
 fn ask_path(value: Answer, q: &Query<'_>, key: &mut [u8; SLOT_SIZE], p: usize, s: &[u8]) -> Answer
     requires { p + length s.now ≤ ended_limit + 1 }
     ensures value { FirstBytes (region key.old path_at p ++ s.now) → result ≡ both value (reach_of q.now.pattern.now (region key.old path_at p ++ s.now)) }
@@ -203,27 +207,23 @@ pub(crate) fn descend(
     enter(key, known, node)
 }
 
-// Tells whether the key of a suffix is taken, and makes its slot then. The span is that of the values behind those known. The suffix's value bytes are
-// the first of `tail`: where more follow, eight are read as one.
+// Tells whether the key of a suffix is taken, and makes its slot then. With the suffix's bytes, the number x, the value is whole; the span is that of the
+// values behind those known.
 pub(crate) fn take_key(
     q: &Query<'_>,
     key: &mut [u8; SLOT_SIZE],
     known: Known,
     suffix: &Suffix<'_>,
-    tail: &[u8],
+    x: u64,
     span: Span,
 ) -> bool
-    requires { (length suffix.now.reference.now ≡ reference_size) × (length suffix.now.value.now ≤ length tail.now) × (take (length suffix.now.value.now) tail.now ≡ suffix.now.value.now) }
+    requires { (length suffix.now.reference.now ≡ reference_size) × (known.value + length suffix.now.value.now ≡ value_size) × (x ≡ number suffix.now.value.now) }
     ensures { Spans (asks q.now) (take known.value key.old) (value_size - known.value) span.from span.to → Taken (asks q.now) known suffix.now.value.now suffix.now.path.now suffix.now.reference.now key.old key.new result }
 {
-    let n = suffix.value.len();
-    if known.value + n != VALUE_SIZE {
-        return false;
-    }
     if known.path + suffix.path.len() > ENDED_LIMIT {
         return false;
     }
-    let value = value_with(span, known.value, tail, n);
+    let value = value_told(span, x, VALUE_SIZE);
     if !is_match(ask_path(value, q, key, known.path, suffix.path)) {
         return false;
     }

@@ -2,7 +2,7 @@
 use mathlib.Core.Path.{◌≡◌, refl, ap, ap₂, subst, ◌∙◌}
 use mathlib.Core.Logic.{◌⊎◌, inl, inr}
 use mathlib.Core.Bool.{true}
-use Prim.Native.Nat.{ℕ, zero, suc, ◌*◌, ◌≤◌}
+use Prim.Native.Nat.{ℕ, zero, suc, ◌*◌, ◌≤◌, ◌<◌}
 use mathlib.Core.List.{List, [], ◌++◌, map}
 use native.Mathlib.Omega.{arith}
 use lib.ListN.{length}
@@ -105,12 +105,12 @@ module _ {low high : ℕ} {pattern store answer filled : List ℕ} {r : Reply} (
           let a = ap (λ (x : Result). x.reply) ((kept b h).result ∙ refused b q answer k z) in
           rw a at (no_rows k a)
 
-  pub ran_refused : {out out' : List ℕ} {n : ℕ} → (r.number ≡ 0 → ⊥) → Wrote out 0 (reply_line r) out' n → Ran (searching low high pattern) store store out out' n
+  pub ran_refused : {out out' : List ℕ} {n : ℕ} → 0 < r.number → Wrote out 0 (reply_line r) out' n → Ran (searching low high pattern) store store out out' n
   unfolding next
   ran_refused {out} {out'} {n} z w =
       record {
         short = short w;
-        prints = λ b h. by_number (λ text. Wrote out 0 text out' n) b h (λ k e. w) (λ e f. absurd (z (ap (λ (x : Reply). x.number) e)));
+        prints = λ b h. by_number (λ text. Wrote out 0 text out' n) b h (λ k e. w) (λ e f. absurd (omega (arith, z, ap (λ (x : Reply). x.number) e)));
         keeps = λ b h. h;
         changes = by_search refl;
       }

@@ -2,14 +2,12 @@
 use mathlib.Core.Path.{◌≡◌, subst}
 use Prim.Native.Nat.{ℕ}
 use mathlib.Core.List.{List}
-use native.Mathlib.Omega.{arith}
 use Rattle.std.specs.Prelude.{Result, Ok, Err, MatchResult}
 use Rattle.book.specs.Replies.{Reply}
 use Rattle.logline.specs.Spelling.{Wrote}
 use Rattle.session.specs.Printed.{reply_line}
 use Rattle.store.specs.Said.{refused, said}
 use Rattle.store.specs.declared.refusal.Refusal.{Refusal}
-use Rattle.store.specs.declared.refusal.Refusal.TheVariants.{PathMalformed, PathTooLong, ReferenceSize, NoStore, OutsideLimits, TooLittleMemory, PatternMalformed, PatternTooLong, Full, EmptyRange, NoRoom}
 
 -- what was written for the one was written for the other
 pub same_line : {out filled : List ℕ} {at n : ℕ} {r r' : Reply} → r ≡ r' → Wrote out at (reply_line r) filled n → Wrote out at (reply_line r') filled n
@@ -19,17 +17,3 @@ pub said_line : {A : Type 0} {out filled : List ℕ} {at n : ℕ} (accepted : A 
     → MatchResult o (λ x. r ≡ accepted x) (λ e. r ≡ refused e) → Wrote out at (reply_line r) filled n → Wrote out at (reply_line (said accepted o)) filled n
 said_line accepted r (Ok x) e w = same_line e w
 said_line accepted r (Err x) e w = same_line e w
-
--- no refusal has number 0
-pub refused_some : (e : Refusal) → (refused e).number ≡ 0 → ⊥
-refused_some PathMalformed z = absurd (omega arith)
-refused_some PathTooLong z = absurd (omega arith)
-refused_some ReferenceSize z = absurd (omega arith)
-refused_some NoStore z = absurd (omega arith)
-refused_some OutsideLimits z = absurd (omega arith)
-refused_some TooLittleMemory z = absurd (omega arith)
-refused_some PatternMalformed z = absurd (omega arith)
-refused_some PatternTooLong z = absurd (omega arith)
-refused_some Full z = absurd (omega arith)
-refused_some EmptyRange z = absurd (omega arith)
-refused_some (NoRoom n) z = absurd (omega arith)

@@ -5,3 +5,4 @@ pub mod Opening
 pub mod Ends
 pub mod Places
 pub mod ListedRows
+pub mod Said

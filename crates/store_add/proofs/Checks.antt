@@ -18,22 +18,8 @@ use Rattle.rows.specs.Entry.{Entry}
 use Rattle.book.specs.Replies.{Reply, reply, add_number}
 use Rattle.store.specs.Said.{refused}
 use Rattle.store.specs.declared.refusal.Refusal.{Refusal}
-use Rattle.store.specs.declared.refusal.Refusal.TheVariants.{PathMalformed, PathTooLong, ReferenceSize, NoStore, OutsideLimits, TooLittleMemory, PatternMalformed, PatternTooLong, Full, EmptyRange, NoRoom}
+use Rattle.store.proofs.Said.{refused_some}
 use Rattle.store_add.specs.Checked.{Checked}
-
--- a refusal has a number
-pub refused_some : (r : Refusal) → 0 < (refused r).number
-refused_some PathMalformed = omega arith
-refused_some PathTooLong = omega arith
-refused_some ReferenceSize = omega arith
-refused_some NoStore = omega arith
-refused_some OutsideLimits = omega arith
-refused_some TooLittleMemory = omega arith
-refused_some PatternMalformed = omega arith
-refused_some PatternTooLong = omega arith
-refused_some Full = omega arith
-refused_some EmptyRange = omega arith
-refused_some (NoRoom rows) = omega arith
 
 -- a path that is fine is short
 pub fine_short : (s : List ℕ) → path_number (path_form s) ≡ 0 → length s ≤ path_limit

@@ -38,7 +38,7 @@ use Rattle.store_add.specs.Placed.{LookedUp, Placed}
 use Rattle.store_add.proofs.Held.{held_back, held_beyond, held_size}
 use Rattle.store.specs.Said.{refused}
 use Rattle.store.specs.declared.refusal.Refusal.{Refusal}
-use Rattle.store_add.proofs.Checks.{refused_some}
+use Rattle.store.proofs.Said.{refused_some}
 
 -- a store that holds a book begins with its image
 pub image_held : {store : List ℕ} {b : Book} → HoldsBook store b → store ≡ splice store 0 (image b)

@@ -38,24 +38,10 @@ use Rattle.store.specs.Listing.{Listed}
 use Rattle.std.specs.Prelude.{Ok, Err}
 use Rattle.store.specs.Said.{refused}
 use Rattle.store.specs.declared.refusal.Refusal.{Refusal}
-use Rattle.store.specs.declared.refusal.Refusal.TheVariants.{PathMalformed, PathTooLong, ReferenceSize, NoStore, OutsideLimits, TooLittleMemory, PatternMalformed, PatternTooLong, Full, EmptyRange, NoRoom}
+use Rattle.store.proofs.Said.{refused_some}
 use Rattle.store_search.specs.Listing.{query_number, RowsOf}
 
 -- ---- the query's own checks
-
--- no refusal has number 0
-refused_some : (e : Refusal) → (refused e).number ≡ 0 → ⊥
-refused_some PathMalformed z = absurd (omega arith)
-refused_some PathTooLong z = absurd (omega arith)
-refused_some ReferenceSize z = absurd (omega arith)
-refused_some NoStore z = absurd (omega arith)
-refused_some OutsideLimits z = absurd (omega arith)
-refused_some TooLittleMemory z = absurd (omega arith)
-refused_some PatternMalformed z = absurd (omega arith)
-refused_some PatternTooLong z = absurd (omega arith)
-refused_some Full z = absurd (omega arith)
-refused_some EmptyRange z = absurd (omega arith)
-refused_some (NoRoom n) z = absurd (omega arith)
 
 module _ (q : Query) where
   pub pattern_said : (e : Refusal) → refused e ≡ reply (pattern_number (pattern_form q.pattern)) 0 0 → (refused e ≡ reply (query_number q) 0 0) × (0 < query_number q)
@@ -64,7 +50,7 @@ module _ (q : Query) where
     where
       go : (f : Form) → refused e ≡ reply (pattern_number f) 0 0
           → (refused e ≡ reply (first_of (pattern_number f ∷ (10 when ltb q.high q.low) ∷ [])) 0 0) × (0 < first_of (pattern_number f ∷ (10 when ltb q.high q.low) ∷ []))
-      go (Ok x) k = absurd (refused_some e (ap (λ (r : Reply). r.number) k))
+      go (Ok x) k = absurd (omega (arith, refused_some e, ap (λ (r : Reply). r.number) k))
       go (Err TooLong) k = (k, omega arith)
       go (Err Malformed) k = (k, omega arith)
 

@@ -1,16 +1,15 @@
 -- The value test, by the tests it is made of. Assumes nothing.
 use mathlib.Core.Path.{◌≡◌, refl, sym, ap, subst, ◌∙◌}
 use mathlib.Core.Bool.{true, false, cond, ◌&&◌, and_comm}
-use Prim.Native.Nat.{ℕ, zero, suc, ◌+◌, ◌-◌, ◌*◌, ◌/◌, ◌^◌, ◌≤◌, ◌<◌}
-use mathlib.Core.List.{List, [], ◌∷◌, ◌++◌, append-nil}
+use Prim.Native.Nat.{ℕ, zero, suc, ◌+◌, ◌-◌, ◌*◌, ◌/◌, ◌%◌, ◌^◌, ◌≤◌, ◌<◌}
+use mathlib.Core.List.{List, [], ◌∷◌, ◌++◌}
 use native.Mathlib.Omega.{arith}
 use native.Mathlib.Nat.{add-mul, one-mul, mul_assoc, le-div_iff_mul-le, div-lt_iff_lt-mul, one-le-pow, zero-lt-suc, pow-suc, pow-le-pow_right, div-eq_of_lt, lt_of_lt_of_le}
-use lib.ListN.{length, take, drop, get_or, replicate, length-append, length-replicate}
+use lib.ListN.{length, take, drop, get_or, length-append}
 use Rattle.std.specs.Option.{SomeIff, unwrap_or}
 use Rattle.std.specs.Prelude.{Option, Some, None}
-use Rattle.std.proofs.lemmas.List.{drop-replicate}
-use lib.Pow.{pow-add, high}
-use lib.Seq.{take_all, length-take-le}
+use lib.Pow.{pow-add, shl_exact, high}
+use lib.Seq.{length-take-le}
 use lib.Dec.{leb, eqb}
 use borrow.Author.Tests.{le-leb, lt-leb, leb-true}
 use Rattle.buffer.specs.Lists.{all}
@@ -112,10 +111,6 @@ module _ (q : Query) (k s : List ℕ) (from to : ℕ) (spans-s : Spans q k (leng
 
 -- ---- one byte more
 
-pub none_more : (k s : List ℕ) → length s ≡ 0 → k ≡ k ++ take 1 s
-none_more k [] e = sym (append-nil k)
-none_more k (b ∷ s) e = absurd (omega arith)
-
 pub one_long : (s : List ℕ) → (length s ≡ 0 → ⊥) → length (take 1 s) ≡ 1
 one_long s f = length-take-le 1 s (omega arith)
 
@@ -169,12 +164,16 @@ number_shifted s o n x b l h e =
     e ∙ ap (λ (m : ℕ). number (region s o m)) sum ∙ ap number (region_add s o n j) ∙ number_append first rest ∙ ap (λ (m : ℕ). number first * 256 ^ m + number rest) long ∙ ap (λ (m : ℕ). number first * m + number rest) (sym (bits j)) in
     ap (λ (d : ℕ). x / d) (sym (bits j)) ∙ ap (λ (y : ℕ). y / 2 ^ (8 * j)) whole ∙ high (number first) (8 * j) (rw (bits j) small)
 
--- known bytes laid over eight zeros
-pub lowest_filled : (k : List ℕ) → length k ≤ value_size → number (region (k ++ drop (length k) (replicate value_size 0)) 0 value_size) ≡ lowest k
-unfolding lowest
-lowest_filled k l =
-    let whole : k ++ drop (length k) (replicate value_size 0) ≡ k ++ replicate (value_size - length k) 0 = ap (λ (z : List ℕ). k ++ z) (drop-replicate (length k) value_size 0) in
-    ap (λ (z : List ℕ). number (take value_size z)) whole ∙ ap number (take_all value_size _ (omega (arith, length-append k (replicate (value_size - length k) 0), length-replicate {A = ℕ} (value_size - length k) 0)))
+-- known bytes as a number, shifted up over those that are left; `None` stands for a shift by all bits, where none is known
+pub lowest_shifted : (k : List ℕ) (x : ℕ) (o : Option ℕ) → all byte k ≡ true → length k ≤ value_size → x ≡ number k
+    → SomeIff o (8 * (value_size - length k) < 64) ((x * 2 ^ (8 * (value_size - length k))) % 2 ^ 64) → unwrap_or o 0 ≡ lowest k
+unfolding lowest number
+lowest_shifted [] x None b l e s = refl
+lowest_shifted (c ∷ k) x None b l e s = absurd (s (omega arith))
+lowest_shifted k x (Some y) b l e s =
+    let j : ℕ = value_size - length k in
+    let h : x < 256 ^ length k = rw e (number_below k b) in
+    s.1 ∙ shl_exact {a = x} (8 * length k) (8 * j) 64 (rw (bits (length k)) h) (omega arith) ∙ rw (bits j, e) (sym (least k j))
 
 pub power_positive : (i : ℕ) → 0 < 256 ^ i
 power_positive i = one-le-pow i 256 (zero-lt-suc 255)

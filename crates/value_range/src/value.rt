@@ -43,9 +43,8 @@ fn lowest(known: &[u8]) -> u64
     requires { length known.now ≤ value_size }
     ensures { result ≡ lowest known.now }
 {
-    let mut value = [0; VALUE_SIZE];
-    value[..known.len()].copy_from_slice(known);
-    get64(&value, 0)
+    let left = VALUE_SIZE - known.len();
+    number_of(known).checked_shl(8 * left as u32).unwrap_or(0)
 }
 
 // A number without its last n bytes.
@@ -80,7 +79,7 @@ pub fn span_behind(range: Span, known: &[u8], n: usize) -> Span
 }
 
 // The number that the first n bytes of s are. Where s has 8 bytes they are read as one, and those too many shifted out.
-fn first_number(s: &[u8], n: usize) -> u64
+pub fn first_number(s: &[u8], n: usize) -> u64
     requires { (n ≤ length s.now) × (n ≤ value_size) }
     ensures { result ≡ number (take n s.now) }
 {
@@ -91,7 +90,7 @@ fn first_number(s: &[u8], n: usize) -> u64
 }
 
 // The answer for a value of which `known` bytes are known, the last of them a number x, of which those in the span lead into the range.
-fn value_told(span: Span, x: u64, known: usize) -> Answer
+pub fn value_told(span: Span, x: u64, known: usize) -> Answer
     ensures { (q : Query) (k s : List ℕ) → x ≡ number s → known ≡ length k + length s → Spans q k (length s) span.from span.to → result ≡ value_reach q (k ++ s) }
 {
     if !span.contains(x) {
@@ -109,14 +108,6 @@ pub fn value_with(span: Span, v: usize, s: &[u8], n: usize) -> Answer
     ensures { (q : Query) (k : List ℕ) → length k ≡ v → Spans q k n span.from span.to → result ≡ value_reach q (k ++ take n s.now) }
 {
     value_told(span, first_number(s, n), v + n)
-}
-
-// Is a value whole with the first n bytes of s behind the v bytes known, and the number that they are above the span?
-pub fn is_above(span: Span, v: usize, s: &[u8], n: usize) -> bool
-    requires { (n ≤ length s.now) × (v ≤ value_size) }
-    ensures { result ≡ eqb (v + n) value_size && ltb span.to (number (take n s.now)) }
-{
-    v + n == VALUE_SIZE && span.to < first_number(s, n)
 }
 
 // Can a value whose first bytes are known be in the range? The pattern plays no part.

@@ -16,12 +16,6 @@ use Rattle.search.proofs.step.take_key.Goals as goal
 of_rest : {q : Query} {k : List ℕ} {from to : ℕ} (v n : ℕ) → n ≡ value_size - v → Spans q k (value_size - v) from to → Spans q k n from to
 of_rest v n e s = rw e s
 
-pub returns-then-known-n-ne-VALUE_SIZE : goal.returns-then-known-n-ne-VALUE_SIZE
-returns-then-known-n-ne-VALUE_SIZE c =
-    let a = c.args in
-    let x = a.suffix.now in
-    λ l. taken_none (asks a.q.now) a.known x.value.now x.path.now x.reference.now a.key.now (omega arith) (λ e m. c.if-known-n-ne-VALUE_SIZE.true e)
-
 pub returns-then-known-suffix-gt-ENDED_LIMIT : goal.returns-then-known-suffix-gt-ENDED_LIMIT
 returns-then-known-suffix-gt-ENDED_LIMIT c =
     let a = c.args in
@@ -35,7 +29,8 @@ returns-then-not-is_match c =
     let m = c.ask_path in
     λ l.
     let q = asks a.q.now in
-    let value = rw c.requires.2 at (c.value_with-value.ensures q (take a.known.value a.key.now) (length-take-le a.known.value a.key.now (omega (arith, a.known.value_fits))) (of_rest a.known.value (length x.value.now) (omega (arith, c.if-known-n-ne-VALUE_SIZE.false)) l)) in
+    let long = length-take-le a.known.value a.key.now (omega (arith, a.known.value_fits)) in
+    let value = c.value_told-value.ensures q (take a.known.value a.key.now) x.value.now c.requires.2 (omega (arith, c.requires.1, long)) (of_rest a.known.value (length x.value.now) (omega (arith, c.requires.1)) l) in
     taken_out q a.known x.value.now x.path.now x.reference.now a.key.now (omega arith) _
     (known_front a.known.value a.known.path a.key.now _ (omega arith) (omega arith) a.known.value_fits m.ensures.key_unchanged)
     (λ f. wants_told q a.known x.value.now x.path.now x.reference.now a.key.now (omega arith) _ _ _ value (m.ensures.value f) c.is_match.ensures ∙ c.if-not-is_match.true)
@@ -47,7 +42,8 @@ returns c =
     let m = c.ask_path in
     λ l.
     let q = asks a.q.now in
-    let value = rw c.requires.2 at (c.value_with-value.ensures q (take a.known.value a.key.now) (length-take-le a.known.value a.key.now (omega (arith, a.known.value_fits))) (of_rest a.known.value (length x.value.now) (omega (arith, c.if-known-n-ne-VALUE_SIZE.false)) l)) in
+    let long = length-take-le a.known.value a.key.now (omega (arith, a.known.value_fits)) in
+    let value = c.value_told-value.ensures q (take a.known.value a.key.now) x.value.now c.requires.2 (omega (arith, c.requires.1, long)) (of_rest a.known.value (length x.value.now) (omega (arith, c.requires.1)) l) in
     taken_slot q a.known x.value.now x.path.now x.reference.now a.key.now (omega arith) _
     (known_front a.known.value a.known.path a.key.now _ (omega arith) (omega arith) a.known.value_fits m.ensures.key_unchanged) _ _
     (λ f. wants_told q a.known x.value.now x.path.now x.reference.now a.key.now (omega arith) _ _ _ value (m.ensures.value f) c.is_match.ensures ∙ c.if-not-is_match.false)

@@ -1,6 +1,7 @@
 -- The walk begins at no node, with nothing known.
+use borrow.Author.Rules.{rules}
 use Rattle.search.proofs.Whole.{trie_searched}
 use Rattle.search.proofs.walk.search_trie.Goals as goal
 
 pub returns : goal.returns
-returns c = trie_searched c.search_tries.ensures.searched c.search_tries.ensures.rows_bound.0 c.search_tries.ensures.rows_bound.1
+returns c = let w = c.search_tries-nodes.ensures in trie_searched w (search (rules, w.same_reference))

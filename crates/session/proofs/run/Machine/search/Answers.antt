@@ -1,7 +1,8 @@
 -- The rows where the search was accepted, and the reply.
 use mathlib.Core.Path.{refl}
 use native.Mathlib.Omega.{arith}
-use Rattle.session.proofs.Said.{same_line, refused_some}
+use Rattle.store.proofs.Said.{refused_some}
+use Rattle.session.proofs.Said.{same_line}
 use Rattle.session.proofs.Running.{room_there, ran_refused, ran_accepted}
 use Rattle.session.proofs.run.Machine.search.Goals as goal
 
