@@ -42,7 +42,7 @@ fn common_bytes(slots: &[Slot], start: usize, from: usize, limit: usize) -> usiz
     let mut shared = limit;
     'positions: for j in from..limit {
         let byte = slots[0][start + j];
-        for slot in slots {
+        for slot in &slots[1..] {
             if slot[start + j] != byte {
                 shared = j;
                 break 'positions;

@@ -6,7 +6,7 @@ use Rattle.trie_sets.specs.Positions.{slot_byte}
 use Rattle.trie_sets.proofs.positions.common_bytes.Given as goal
 
 abbrev pub invariant-loop-slot : goal.invariant-loop-slot
-invariant-loop-slot l = (l.shared ≡ l.limit) × ((k : ℕ) → k < l.slot-index → slot_byte l.slots k (l.start + l.j) ≡ l.byte)
+invariant-loop-slot l = (l.shared ≡ l.limit) × ((k : ℕ) → k < l.slot-index + 1 → slot_byte l.slots k (l.start + l.j) ≡ l.byte)
 
 abbrev pub invariant-positions : goal.invariant-positions
 invariant-positions l =
