@@ -42,12 +42,6 @@ returns-then-is_above c =
     (suffixes_above c.first_suffix.ensures.value suffix c.in-Some.is (known_span x.value x.path a.key.now (c.span_behind-rest.ensures a.q.now.pattern.now)) whole
     (ltb-true to n (and_right (eqb (x.value + length suffix.value.now) value_size) (ltb to n) told)))
 
-pub put-requires : goal.put-requires
-put-requires c =
-    let i = c.loop-suffix.invariant in
-    let ready = c.requires in
-    rw (row_long c.take_key.new.key c.take_key.array_long) (omega (arith, ready.fits, i.room, i.finding.rows.long), omega (arith, ready.few, i.few_rows, c.in-Some.ensures.within.long))
-
 pub take_key-requires : goal.take_key-requires
 take_key-requires c =
     let w = c.in-Some.ensures.within in
