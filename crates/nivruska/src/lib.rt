@@ -16,9 +16,9 @@ ghost use Rattle.store_read.specs.Listings.{records_read};
 pub mod reply;
 
 pub use reply::Reply;
-pub use search::walk::Found;
 pub use store::refusal::Refusal;
 pub use store_add::add::Added;
+pub use store_search::query::Found;
 
 // Sets a store up for M, L and τ.
 pub fn setup(store: &mut [u8], m: u64, l: u64, tau: u64) -> Result<(), Refusal>

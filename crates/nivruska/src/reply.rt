@@ -1,7 +1,7 @@
 // What each call returns for C and the log: its number, and the two values beside it.
-use search::walk::Found;
 use store::refusal::Refusal;
 use store_add::add::Added;
+use store_search::query::Found;
 
 #[repr(C)]
 #[derive(Clone, Copy, PartialEq, Eq, Debug)]

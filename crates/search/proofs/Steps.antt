@@ -1,14 +1,12 @@
 -- The steps of a search. Assumes nothing.
 use mathlib.Core.Path.{◌≡◌, refl, sym, ap, ap₂, subst, ◌∙◌}
-use mathlib.Core.Bool.{Bool, true, false, cond, ◌&&◌, and-true}
+use mathlib.Core.Bool.{Bool, true, false, cond, ◌&&◌}
 use Prim.Native.Nat.{ℕ, suc, ◌+◌, ◌-◌, ◌≤◌, min}
 use mathlib.Core.List.{List, [], ◌∷◌, ◌++◌, append-nil, append_assoc}
 use native.Mathlib.Omega.{arith}
 use lib.ListN.{length, take, drop, length-append}
 use lib.Seq.{take-take, take_at, drop_at}
-use borrow.Author.Tests.{le-leb}
-use Rattle.std.specs.Prelude.{Option, Some, None, MatchOption}
-use Rattle.std.specs.Option.{is_some}
+use Rattle.std.specs.Prelude.{Option, Some, None}
 use Rattle.std.proofs.lemmas.List.{take-append-drop}
 use Rattle.buffer.specs.Splice.{splice, region}
 use Rattle.buffer.proofs.Splice.{region_drop, region_add, region_before, region_at_lem, take_before}
@@ -24,8 +22,8 @@ use Rattle.trie_theory.specs.Dimensions.{below}
 use Rattle.trie_theory.specs.Search.{branch, enters}
 use Rattle.entries.specs.Slots.{slot_size}
 use Rattle.entries.specs.Query.{Query, value_reach, reaches, wants, is_match}
-use Rattle.gather.specs.KeySlots.{ended_limit, has_room, has_slot, key_slot, known, suffix_key}
-use Rattle.gather.specs.Walks.{Entered, Deeper, known_strings}
+use Rattle.gather.specs.KeySlots.{ended_limit, has_slot, key_slot, known, suffix_key}
+use Rattle.gather.specs.Walks.{known_strings}
 use Rattle.gather.specs.declared.known.Known.{Known}
 use Rattle.gather.proofs.Filling.{known_same, unfilled, slot_kept}
 use Rattle.trie_read.specs.Shape.{above_of}
@@ -36,7 +34,7 @@ use Rattle.trie_read.specs.declared.kind.Dimension.TheVariants.{Value, Path, Oth
 use Rattle.buffer.proofs.Tests.{not_both, and_both, and_false}
 use Rattle.value_range.specs.Spans.{Spans}
 use Rattle.search.specs.declared.step.Common.{Common}
-use Rattle.search.specs.Steps.{both, takes, InCommon, Descended, Taken}
+use Rattle.search.specs.Steps.{both, takes, InCommon, Taken}
 
 -- ---- both dimensions
 
@@ -149,29 +147,6 @@ known_front v p k k' long long' h e =
     known_same v p k' k
     (sym (take-take v (path_at + p) k' (omega arith)) ∙ ap (take v) e ∙ take-take v (path_at + p) k (omega arith))
     (region_drop k' path_at p (omega arith) ∙ ap (drop path_at) e ∙ sym (region_drop k path_at p (omega arith)))
-
-room_told : (x : Known) (value path k k' : List ℕ) (r : Option Known) → MatchOption r (has_room x.value x.path value path ≡ false) (Deeper x value path k k') → is_some r ≡ has_room x.value x.path value path
-room_told x value path k k' None e = sym e
-room_told x value path k k' (Some y) d =
-    sym (and_both (le-leb (x.value + length value) value_size (omega (arith, d.value_is, y.value_fits))) (le-leb (x.path + length path) ended_limit (omega (arith, d.path_is, y.path_fits))))
-
-deeper_told : (x : Known) (value path k k₁ k' : List ℕ) → known_strings x k₁ ≡ known_strings x k → (r : Option Known)
-    → MatchOption r (has_room x.value x.path value path ≡ false) (Deeper x value path k₁ k') → MatchOption r (Unit {0}) (Deeper x value path k k')
-deeper_told x value path k k₁ k' kept None e = tt
-deeper_told x value path k k₁ k' kept (Some y) d = record { value_is = d.value_is; path_is = d.path_is; joins = d.joins ∙ ap (λ (s : Strings). join s (value ∷ path ∷ [])) kept }
-
-module _ {q : Query} {above : Option Dimension} {x : Known} {value path k k₁ : List ℕ} (kept : known_strings x k₁ ≡ known_strings x k) where
-  pub descended : {k' : List ℕ} {r : Option Known} → Entered x value path k₁ k' r
-      → (FirstBytes (region k path_at x.path ++ path) → true ≡ enters (reaches q) (above_of above) (known_strings x k) (value ∷ path ∷ [])) → Descended q above x value path k k' r
-  descended {k' = k'} {r = r} e y =
-      record {
-        deeper = deeper_told x value path k k₁ k' kept r e.is;
-        is = λ f. room_told x value path k₁ k' r e.is ∙ rw (← y f) (sym (and-true (has_room x.value x.path value path)));
-        kept = e.kept ∙ kept;
-      }
-
-  pub not_descended : (FirstBytes (region k path_at x.path ++ path) → false ≡ enters (reaches q) (above_of above) (known_strings x k) (value ∷ path ∷ [])) → Descended q above x value path k k₁ None
-  not_descended y = record { deeper = tt; is = λ f. sym (and_false (has_room x.value x.path value path) _ (sym (y f))); kept = kept }
 
 -- ---- the step to a key
 

@@ -125,19 +125,18 @@ whole k {q} w =
       entered = w.entered ∙ sym (nodes_root (reaches q) f w.regular);
     }
 
-pub trie_searched : {q : Query} {x : Known} {c d : ℕ} {t k k' s' : List ℕ} {o o' : Output} → Walked (TriesFound q root node_limit (known 0 0 k) t) x t o o' k k' d
-    → s' ≡ o'.bytes.now → TrieSearched q t o.room o.rows c o.bytes.now s' o'.rows (c + d)
-trie_searched {k = k} w new =
+pub trie_searched : {q : Query} {x : Known} {d : ℕ} {t k k' : List ℕ} {o o' : Output} → Walked (TriesFound q root node_limit (known 0 0 k) t) x t o o' k k' d → TrieSearched q t o o' d
+trie_searched {k = k} w =
     let i = w.searched in
     record {
       put = i.rows.put;
-      nodes = i.nodes;
       fit = i.rows.fit;
       rows_are = i.rows.count;
-      nodes_are = omega (arith, i.count);
       few_rows = w.few_rows;
-      few_nodes = omega (arith, w.few_nodes);
-      long = ap length new ∙ i.rows.long;
-      writes = new ∙ i.rows.writes;
-      are = λ ks e f. i.are ks e (whole k f);
+      few_nodes = w.few_nodes;
+      room = w.room;
+      same_reference = w.same_reference;
+      long = i.rows.long;
+      writes = i.rows.writes;
+      are = λ ks e f. let z = i.are ks e (whole k f) in (z.0, omega (arith, z.1, i.count));
     }

@@ -46,20 +46,19 @@ pub record TrieFound (q : Query) (t : List ℕ) (ks : List Key) (e : ℕ) : Type
   pub is : ks ≡ found (reaches q) (wants q) root [] tries
   pub entered : e ≡ nodes_entered (reaches q) root [] tries
 
--- The contract of `search_trie`, on any bytes t: rows of some keys are found behind n others, r in all, and those that are among the first `room` are
--- written at their places, whatever stands before them, and nothing else; and nodes are counted from c on. Where the bytes are those of a trie, these
--- are what a search of it finds
-pub record TrieSearched (q : Query) (t : List ℕ) (room n c : ℕ) (s s' : List ℕ) (r d : ℕ) : Type 0 where
+-- The contract of `search_trie`, on any bytes t: rows of some keys are found behind those of the output, and those that have room are written at their
+-- places, whatever stands before them, and nothing else; d nodes are entered. Where the bytes are those of a trie, these are what a search of it finds
+pub record TrieSearched (q : Query) (t : List ℕ) (o o' : Output) (d : ℕ) : Type 0 where
   pub put : List Key
-  pub nodes : ℕ
   pub fit : all has_slot put ≡ true
-  pub rows_are : r ≡ n + length put
-  pub nodes_are : d ≡ c + nodes
-  pub few_rows : r ≤ n + length t
-  pub few_nodes : d ≤ c + length t
-  pub long : length s' ≡ length s
-  pub writes : s' ≡ written key_row 0 room n put s
-  pub are : (ks : List Key) (e : ℕ) → TrieFound q t ks e → (put ≡ ks) × (nodes ≡ e)
+  pub rows_are : o'.rows ≡ o.rows + length put
+  pub few_rows : o'.rows ≤ o.rows + length t
+  pub few_nodes : d ≤ length t
+  pub room : o'.room ≡ o.room
+  pub same_reference : o'.bytes.ghost_name ≡ o.bytes.ghost_name
+  pub long : length o'.bytes.now ≡ length o.bytes.now
+  pub writes : o'.bytes.now ≡ written key_row 0 o.room o.rows put o.bytes.now
+  pub are : (ks : List Key) (e : ℕ) → TrieFound q t ks e → (put ≡ ks) × (d ≡ e)
 
 -- ---- what the parts of the walk promise each other
 

@@ -1,7 +1,5 @@
-// The walk of a search over tries in bytes. Of the rows found it writes the first `room` into the answer, and counts all: with a room of 0 it only
+// The walk of a search over tries in bytes. The first rows found that have room go into the output, and all are counted: with a room of 0 it only
 // counts. On bytes that are no trie of ours it returns all the same, with at most `depth` nested calls.
-ghost use Rattle.std.specs.Prelude.{◌+◌, ◌*◌, ◌<◌, ◌≤◌, length};
-ghost use Rattle.buffer.specs.Sizes.{word_limit};
 ghost use Rattle.rows.specs.Sizes.{row_size};
 ghost use Rattle.trie_read.specs.Shape.{above_of};
 ghost use Rattle.gather.specs.Walks.{known_strings};
@@ -20,13 +18,6 @@ use trie_read::kind::{Dimension, Kind};
 use trie_read::sizes::SUFFIX_SIZE;
 use trie_read::suffixes::first_suffix;
 use value_range::value::{first_number, span_behind};
-
-// Rows found, and nodes entered.
-#[derive(Clone, Copy)]
-pub struct Found {
-    pub rows: usize,
-    pub nodes: usize,
-}
 
 // Puts the rows of the keys found among suffixes.
 fn suffixes(
@@ -112,34 +103,11 @@ fn search_tries(
     nodes
 }
 
-// Searches one trie, behind the rows and nodes found in others.
-pub fn search_trie(
-    q: &Query<'_>,
-    tries: &[u8],
-    answer: &mut [u8],
-    room: usize,
-    found: Found,
-) -> Found
-    requires { (room * row_size ≤ length answer.old) × (found.rows + length tries.now < word_limit) × (found.nodes + length tries.now < word_limit) }
-    ensures { TrieSearched (asks q.now) tries.now room found.rows found.nodes answer.old answer.new result.rows result.nodes }
+// Searches one trie: puts the rows found behind those of others. Returns how many nodes are entered.
+pub fn search_trie(q: &Query<'_>, tries: &[u8], output: &mut Output<'_>) -> usize
+    requires { Ready row_size tries.now output.old }
+    ensures { TrieSearched (asks q.now) tries.now output.old output.new result }
 {
     let mut key = [0; SLOT_SIZE];
-    let mut output = Output {
-        bytes: answer,
-        room,
-        rows: found.rows,
-    };
-    let nodes = search_tries(
-        q,
-        tries,
-        None,
-        &mut key,
-        ROOT.known,
-        NODE_LIMIT,
-        &mut output,
-    );
-    Found {
-        rows: output.rows,
-        nodes: found.nodes + nodes,
-    }
+    search_tries(q, tries, None, &mut key, ROOT.known, NODE_LIMIT, output)
 }

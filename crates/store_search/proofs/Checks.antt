@@ -9,7 +9,7 @@ use lib.Dec.{ltb}
 use borrow.Author.Tests.{lt-ltb, le-ltb}
 use Rattle.buffer.specs.Lists.{pick}
 use Rattle.buffer.proofs.Sums.{length_pick, count_most}
-use Rattle.matcher.specs.Form.{Form, pattern_form, pattern_number, is_fine}
+use Rattle.matcher.specs.Form.{Form, pattern_form, pattern_number}
 use Rattle.matcher.specs.declared.form.FormError.TheVariants.{TooLong, Malformed}
 use Rattle.rows.specs.Sizes.{row_size}
 use Rattle.rows.specs.Entry.{row}
@@ -65,14 +65,6 @@ module _ (q : Query) where
     pub query_fine : q.low ≤ q.high → query_number q ≡ 0
     unfolding query_number
     query_fine h = rw (no_number, le-ltb q.high q.low h)
-
-    pub fine_pattern : is_fine (pattern_form q.pattern) ≡ true
-    fine_pattern = go (pattern_form q.pattern) no_number
-      where
-        go : (f : Form) → pattern_number f ≡ 0 → is_fine f ≡ true
-        go (Ok x) e = refl
-        go (Err TooLong) e = absurd (let z : ◌≡◌ {A = ℕ} 8 0 = e in omega arith)
-        go (Err Malformed) e = absurd (let z : ◌≡◌ {A = ℕ} 7 0 = e in omega arith)
 
 search_number_lem : (n : ℕ) (f : Front) (q : Query) → no_store n f ≡ false → search_number n f q ≡ query_number q
 unfolding search_number query_number

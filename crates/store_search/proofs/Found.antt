@@ -24,6 +24,7 @@ use Rattle.gather.specs.KeySlots.{has_slot}
 use Rattle.gather.specs.Walks.{joined, written}
 use Rattle.gather.proofs.Putting.{joined_none, written_behind}
 use Rattle.search.specs.Steps.{key_row}
+use Rattle.gather.specs.declared.output.Output.{Output}
 use Rattle.search.specs.Searches.{TrieFound, TrieSearched}
 use Rattle.search.proofs.Finding.{length_row}
 use Rattle.book.specs.Front.{Front, need, need_limit}
@@ -124,10 +125,10 @@ searched_none q store m l room s =
       are = λ f t a b g h. (refl, refl);
     }
 
-pub searched_next : {q : Query} {store bs : List ℕ} {m l k room : ℕ} {s s' s'' : List ℕ} {r d r' d' : ℕ} → TriesSearched q store m l k room s s' r d
-    → TrieIs store m l k bs → TrieSearched q bs room r d s' s'' r' d' → k ≤ l → length bs ≤ need_limit → room * row_size ≤ length s
-    → TriesSearched q store m l (k + 1) room s s'' r' d'
-searched_next {q} {store} {bs} {m} {l} {k} {room} {s} {s'} {s''} {r} {d} {r'} {d'} a p b h few fits =
+pub searched_next : {q : Query} {store bs : List ℕ} {m l k room : ℕ} {s : List ℕ} {o o' : Output} {d d' : ℕ} → TriesSearched q store m l k room s o.bytes.now o.rows d
+    → o.room ≡ room → TrieIs store m l k bs → TrieSearched q bs o o' d' → k ≤ l → length bs ≤ need_limit → room * row_size ≤ length s
+    → TriesSearched q store m l (k + 1) room s o'.bytes.now o'.rows (d + d')
+searched_next {q} {store} {bs} {m} {l} {k} {room} {s} {o} {o'} {d} {d'} a full p b h few fits =
     record {
       put = a.put ++ b.put;
       fit = tested_append has_slot a.put b.put a.fit b.fit;
@@ -136,14 +137,14 @@ searched_next {q} {store} {bs} {m} {l} {k} {room} {s} {s'} {s''} {r} {d} {r'} {d
       few_nodes = omega (arith, a.few_nodes, b.few_nodes);
       long = b.long ∙ a.long;
       writes =
-          b.writes
-          ∙ ap (λ (n : ℕ). written key_row 0 room n b.put s') a.rows_are
-          ∙ written_behind key_row row_size length_row 0 room b.put a.put s' s b.fit a.fit (omega (arith, a.long)) (sym a.long) a.writes;
+          rw full at b.writes
+          ∙ ap (λ (n : ℕ). written key_row 0 room n b.put o.bytes.now) a.rows_are
+          ∙ written_behind key_row row_size length_row 0 room b.put a.put o.bytes.now s b.fit a.fit (omega (arith, a.long)) (sym a.long) a.writes;
       are = λ f t em el g holds.
           let x = a.are f t em el g holds in
           let y = b.are _ _ (trie_found q _ (numbered t k) bs (good_numbered f t g k (omega arith)) (p.is ∙ p.part_of.holds f t em el g holds)) in (
             (λ i. x.0 i ++ y.0 i) ∙ sym (found_next q k t),
-            omega (arith, x.1, y.1, b.nodes_are, nodes_next q k t),
+            omega (arith, x.1, y.1, nodes_next q k t),
           );
     }
 

@@ -38,15 +38,15 @@ fit_rows (cons {x = x} e a) = and_both (rowed x e).fits (fit_rows a)
 
 -- ---- the walk over all tries
 
-pub walked : {q : Query} {store : List ℕ} {m l room : ℕ} {answer s : List ℕ} {n d : ℕ} → TriesSearched q store m l (l + 1) room answer s n d
-    → Walked row_size (RowsOf q store m l) room answer s n d
+pub walked : {q : Query} {store : List ℕ} {m l room : ℕ} {answer s s' : List ℕ} {n d : ℕ} → TriesSearched q store m l (l + 1) room answer s n d
+    → s' ≡ s → Walked row_size (RowsOf q store m l) room answer s' n d
 unfolding joined
-walked {q} {store} {m} {l} {room} {answer} {s} {n} {d} a =
+walked {q} {store} {m} {l} {room} {answer} {s} {n = n} {d} a new =
     record {
       put = map key_row a.put;
       even = all_even key_row row_size length_row a.put a.fit;
       count = a.rows_are ∙ sym (length-map a.put key_row);
-      writes = a.writes ∙ ap (λ (rs : List (List ℕ)). splice answer 0 (flat rs)) (map_take key_row room a.put);
+      writes = new ∙ a.writes ∙ ap (λ (rs : List (List ℕ)). splice answer 0 (flat rs)) (map_take key_row room a.put);
       are = λ rows second h. are rows second h;
     }
   where

@@ -15,7 +15,6 @@ use Rattle.gather.specs.Walks.{joined}
 use Rattle.search.specs.Steps.{key_row}
 use Rattle.search.specs.Asks.{asks}
 use Rattle.search.specs.declared.query.Query as Code
-use Rattle.search.specs.declared.walk.Found.{Found}
 use Rattle.book.specs.Front.{Front, need_limit}
 use Rattle.book.specs.Tries.{Tries}
 use Rattle.book.specs.Replies.{Reply, reply, first_of, ◌when◌}
@@ -26,6 +25,7 @@ use Rattle.book.specs.FromTries.{found_in}
 use Rattle.store.specs.Parts.{up_to}
 use Rattle.store.specs.Said.{refused}
 use Rattle.store.specs.declared.refusal.Refusal.{Refusal}
+use Rattle.store_search.specs.declared.query.Found.{Found}
 
 -- the numbers that a query's own checks decide: 8, 7, 10
 unfoldable pub query_number : Query → ℕ

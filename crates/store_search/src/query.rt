@@ -10,11 +10,17 @@ ghost use Rattle.store_search.specs.Listing.{Asked, found_said};
 use crate::walk::Search;
 use matcher::form::{FormError, check_pattern};
 use search::query::Query;
-use search::walk::Found;
 use store::listing::list;
 use store::opened::Store;
 use store::refusal::Refusal;
 use value_range::value::Span;
+
+// Rows found, and nodes entered.
+#[derive(Clone, Copy)]
+pub struct Found {
+    pub rows: usize,
+    pub nodes: usize,
+}
 
 // Is the pattern formed?
 fn check_form(pattern: &[u8]) -> Result<(), Refusal>

@@ -6,9 +6,10 @@ ghost use Rattle.search.specs.Asks.{asks};
 ghost use Rattle.store.specs.Listing.{Walked};
 ghost use Rattle.store_search.specs.Listing.{RowsOf};
 
+use gather::output::Output;
 use rows::sizes::ROW_SIZE;
 use search::query::Query;
-use search::walk::{Found, search_trie};
+use search::walk::search_trie;
 use store::listing::Walk;
 use store::opened::Store;
 
@@ -35,11 +36,16 @@ impl Walk for Search<'_> {
         requires { room * row_size ≤ length answer.old }
         ensures { Walked row_size (RowsOf (asks self.now.query) self.now.store.bytes.now self.now.store.front.m self.now.store.front.l) room answer.old answer.new result.0 result.1 }
     {
-        let mut found = Found { rows: 0, nodes: 0 };
+        let mut output = Output {
+            bytes: answer,
+            room,
+            rows: 0,
+        };
+        let mut nodes = 0;
         for k in 0..=self.store.front.l {
-            found = search_trie(&self.query, self.store.trie(k), answer, room, found);
+            nodes += search_trie(&self.query, self.store.trie(k), &mut output);
         }
-        (found.rows, found.nodes)
+        (output.rows, nodes)
     }
 
     ghost wide = { le_refl row_size };

@@ -24,12 +24,6 @@ row_long k e = length-take-le row_size k (omega arith)
 pub loop-suffix-init : goal.loop-suffix-init
 loop-suffix-init c = going_start c.told-key
 
-pub put-requires : goal.put-requires
-put-requires c =
-    let i = c.loop-suffix.invariant in
-    let ready = c.requires in
-    rw (row_long c.take_key.new.key c.take_key.array_long) (omega (arith, ready.fits, i.room, i.finding.rows.long), omega (arith, ready.few, i.few_rows, c.in-Some.ensures.within.long))
-
 -- the first suffix lies above the range
 pub returns-then-rest-x : goal.returns-then-rest-x
 returns-then-rest-x c =

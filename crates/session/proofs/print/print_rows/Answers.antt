@@ -12,13 +12,6 @@ use Rattle.session.proofs.print.print_rows.Goals as goal
 pub loop-i-init : goal.loop-i-init
 loop-i-init c = (omega arith, refl, omega arith, print_none _ _)
 
-pub spell_row-at-requires : goal.spell_row-at-requires
-spell_row-at-requires c =
-    let i = c.loop-i.i in
-    let s = c.args.answer.now in
-    let from : i * 229 + 229 - i * 229 ≡ row_size = omega arith in
-    (omega (arith, c.loop-i.invariant), rw from (length_region s (i * row_size) row_size (omega arith)))
-
 pub loop-i-preserved : goal.loop-i-preserved
 loop-i-preserved c =
     let l = c.loop-i in
@@ -28,9 +21,3 @@ loop-i-preserved c =
     let row : Wrote l.out l.at (row_line (region a.answer.now (l.i * row_size) row_size)) c.spell_row-at.new.out c.spell_row-at.result = rw from at w in
     let fits = row_line_length (region a.answer.now (l.i * row_size) row_size) (length_region a.answer.now (l.i * row_size) row_size (omega arith)) in
     (omega arith, omega arith, omega (arith, row.ends, fits, l.invariant), print_more a.answer.now l.i l.invariant.3 row)
-
-pub returns : goal.returns
-returns c =
-    let l = c.loop-i in
-    let n : l.i ≡ c.args.n = omega arith in
-    record { wrote = rw n at l.invariant.3; upper_bound = rw n at l.invariant.2 }

@@ -2,7 +2,7 @@
 use mathlib.Core.Path.{refl}
 use Rattle.std.proofs.lemmas.Result.{err_from_is_err_and}
 use Rattle.entries.specs.Query.{asked}
-use Rattle.store_search.proofs.Checks.{pattern_said, range_said, query_fine, fine_pattern}
+use Rattle.store_search.proofs.Checks.{pattern_said, range_said, query_fine}
 use Rattle.store_search.proofs.query.check.Goals as goal
 
 pub returns-in_err-check_form : goal.returns-in_err-check_form
@@ -13,9 +13,6 @@ returns-in_err-check_form c =
 
 pub returns-then-range : goal.returns-then-range
 returns-then-range c = let a = c.args in range_said (asked a.pattern.now a.range.from a.range.to) c.in_ok-check_form.ensures c.if-range.true
-
-pub new-requires : goal.new-requires
-new-requires c = let a = c.args in fine_pattern (asked a.pattern.now a.range.from a.range.to) c.in_ok-check_form.ensures
 
 pub returns : goal.returns
 returns c =
