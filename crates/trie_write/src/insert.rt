@@ -53,7 +53,8 @@ impl Part for NewSuffix {
     const SIZE: usize = SUFFIX_SIZE;
 
     fn put(s: &mut [u8], at: usize, key: &Key<'_>) {
-        put_suffix(s, at, key.value, key.path, key.reference);
+        let reference = key.reference;
+        put_suffix(s, at, key.value, key.path, reference);
     }
 }
 

@@ -53,5 +53,6 @@ pub fn put_leaf(s: &mut [u8], at: usize, key: &Key<'_>)
 {
     let body = at + HEAD_SIZE + key.size();
     put_front(s, at, Kind::Leaf, key.value, key.path, LEAF_BODY);
-    put_suffix(s, body, &key.value[0..0], &key.path[0..0], key.reference);
+    let reference = key.reference;
+    put_suffix(s, body, &key.value[0..0], &key.path[0..0], reference);
 }
