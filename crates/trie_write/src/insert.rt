@@ -18,9 +18,10 @@ pub trait Part {
 
     ghost bytes: { TrieKey → List ℕ };
 
-    // Its bytes beside those of the key's strings.
+    // How many bytes it has beside those of the key's strings.
     const SIZE: usize;
 
+    // Writes it.
     fn put(s: &mut [u8], at: usize, key: &Key<'_>)
         requires { at + SIZE + length key.now.value.now + length key.now.path.now ≤ length s.old }
         ensures s_after { s.new ≡ splice s.old at (bytes (spelled key.now)) }
