@@ -1,7 +1,7 @@
 // Exports for measuring crate `trie_add` from outside (bench/tries). They test what the callee requires and otherwise do nothing.
 #![tactic(auto)]
 
-use rows::sizes::{NODE_LIMIT, REFERENCE_SIZE};
+use rows::sizes::NODE_LIMIT;
 use trie_read::sizes::{HEAD_SIZE, LEAF_SIZE};
 use trie_write::key::Key;
 
@@ -20,9 +20,9 @@ pub extern "C" fn bench_add(
     if path.len() >= 256 {
         return 0;
     }
-    if reference.len() != REFERENCE_SIZE {
+    let Some(reference) = reference.as_array() else {
         return 0;
-    }
+    };
     if s.len() >= 4294967296 {
         return 0;
     }

@@ -7,7 +7,6 @@ ghost use Rattle.store.specs.Said.{said, done};
 ghost use Rattle.store_overflow.specs.Entering.{entry_of};
 ghost use Rattle.store_add.specs.Checked.{Checked};
 
-use buffer::sizes::REFERENCE_SIZE;
 use matcher::form::{FormError, check_path};
 use store::front::Front;
 use store::refusal::Refusal;
@@ -36,9 +35,9 @@ pub(crate) fn check<'a>(
     ensures same { IfOk result (λ e. entry_of e ≡ entry path.now value reference.now) }
 {
     check_form(path)?;
-    if reference.len() != REFERENCE_SIZE {
+    let Some(reference) = reference.as_array() else {
         return Err(Refusal::ReferenceSize);
-    }
+    };
     if front.held + 1 == front.held_limit() {
         return Err(Refusal::Full);
     }

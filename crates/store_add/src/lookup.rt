@@ -10,8 +10,9 @@ use trie_write::key::Key;
 pub(crate) fn has_entry(store: &Store<'_>, key: &Key<'_>) -> bool
     ensures { LookedUp store.now.front.m store.now.front.l (spelled key.now) store.now.bytes.now result }
 {
+    let reference = key.reference;
     for k in 0..store.front.l + 1 {
-        if contains(store.trie(k), key.value, key.path, key.reference) {
+        if contains(store.trie(k), key.value, key.path, reference) {
             return true;
         }
     }

@@ -19,8 +19,9 @@ pub(crate) fn put_slot(s: &mut [u8], at: usize, entry: &Entry<'_>)
     ensures { s.new ≡ splice s.old at (slot (entry_of entry.now)) }
 {
     let path = entry.path;
+    let reference = entry.reference;
     put64(s, at, entry.value);
-    copy_from(s, at + REFERENCE_AT, entry.reference);
+    copy_from(s, at + REFERENCE_AT, reference);
     s[at + LENGTH_AT] = path.len() as u8;
     copy_from(s, at + PATH_AT, path);
     clear(s, at + PATH_AT + path.len(), PATH_ROOM - path.len());

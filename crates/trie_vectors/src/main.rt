@@ -150,7 +150,8 @@ impl Trie {
 
     fn ask(&self, console: &mut Console, key: &Key<'_>) {
         let trie = &self.bytes[..self.used];
-        if trie_read::lookup::contains(trie, key.value, key.path, key.reference) {
+        let reference = key.reference;
+        if trie_read::lookup::contains(trie, key.value, key.path, reference) {
             console.print(b"1\n");
         } else {
             console.print(b"0\n");

@@ -18,9 +18,10 @@ pub trait Part {
 
     ghost bytes: { TrieKey → List ℕ };
 
-    // Its bytes beside those of the key's strings.
+    // How many bytes it has beside those of the key's strings.
     const SIZE: usize;
 
+    // Writes it.
     fn put(s: &mut [u8], at: usize, key: &Key<'_>)
         requires { at + SIZE + length key.now.value.now + length key.now.path.now ≤ length s.old }
         ensures s_after { s.new ≡ splice s.old at (bytes (spelled key.now)) }
@@ -53,7 +54,8 @@ impl Part for NewSuffix {
     const SIZE: usize = SUFFIX_SIZE;
 
     fn put(s: &mut [u8], at: usize, key: &Key<'_>) {
-        put_suffix(s, at, key.value, key.path, key.reference);
+        let reference = key.reference;
+        put_suffix(s, at, key.value, key.path, reference);
     }
 }
 

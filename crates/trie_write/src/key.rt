@@ -2,12 +2,14 @@
 ghost use Rattle.std.specs.Prelude.{◌≡◌, ◌+◌, ◌≤◌, ◌<◌, length, drop};
 ghost use Rattle.buffer.specs.Sizes.{reference_size};
 
-// Bytes of its value, bytes of its path with the end byte, and its reference.
+use buffer::sizes::REFERENCE_SIZE;
+
+// Bytes of its value, bytes of its path with the end byte, and its reference. `twenty` says the array's length where a key is only passed on.
 #[derive(Clone, Copy)]
 pub struct Key<'a> {
     pub value: &'a [u8],
     pub path: &'a [u8],
-    pub reference: &'a [u8],
+    pub reference: &'a [u8; REFERENCE_SIZE],
     pub ghost value_fits: { length value.now < 256 },
     pub ghost path_fits: { length path.now < 256 },
     pub ghost twenty: { length reference.now ≡ reference_size },

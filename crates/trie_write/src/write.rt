@@ -33,7 +33,7 @@ pub fn put_front(s: &mut [u8], at: usize, kind: Kind, value: &[u8], path: &[u8],
     copy_from(s, at + HEAD_SIZE + n, path);
 }
 
-// Writes a suffix.
+// Writes a suffix. Three slices and no Key: the builder has them in a slot, and a reference of any length is written.
 pub fn put_suffix(s: &mut [u8], at: usize, value: &[u8], path: &[u8], reference: &[u8])
     requires { (at + 2 + length reference.now + length value.now + length path.now ≤ length s.old) × (length value.now < 256) × (length path.now < 256) }
     ensures { s.new ≡ splice s.old at (suffix_bytes (key_of value.now path.now reference.now)) }
@@ -53,5 +53,6 @@ pub fn put_leaf(s: &mut [u8], at: usize, key: &Key<'_>)
 {
     let body = at + HEAD_SIZE + key.size();
     put_front(s, at, Kind::Leaf, key.value, key.path, LEAF_BODY);
-    put_suffix(s, body, &key.value[0..0], &key.path[0..0], key.reference);
+    let reference = key.reference; // a field is lent as a slice only from a variable
+    put_suffix(s, body, &key.value[0..0], &key.path[0..0], reference);
 }
