@@ -38,10 +38,10 @@ fit_rows (cons {x = x} e a) = and_both (rowed x e).fits (fit_rows a)
 
 -- ---- the walk over all tries
 
-pub walked : {q : Query} {store : List ℕ} {m l room : ℕ} {answer s s' : List ℕ} {n d : ℕ} → TriesSearched q store m l (l + 1) room answer s n d
-    → s' ≡ s → Walked row_size (RowsOf q store m l) room answer s' n d
+pub walked : {q : Query} {store : List ℕ} {m l room : ℕ} {answer s s' : List ℕ} {n d d' : ℕ} → TriesSearched q store m l (l + 1) room answer s n d
+    → s' ≡ s → d' ≡ d → Walked row_size (RowsOf q store m l) room answer s' n d'
 unfolding joined
-walked {q} {store} {m} {l} {room} {answer} {s} {n = n} {d} a new =
+walked {q} {store} {m} {l} {room} {answer} {s} {n = n} {d} {d'} a new same =
     record {
       put = map key_row a.put;
       even = all_even key_row row_size length_row a.put a.fit;
@@ -50,11 +50,11 @@ walked {q} {store} {m} {l} {room} {answer} {s} {n = n} {d} a new =
       are = λ rows second h. are rows second h;
     }
   where
-    are : (rows : List (List ℕ)) (second : ℕ) → RowsOf q store m l rows second → (sorted record_order (map key_row a.put) ≡ rows) × (d ≡ second)
+    are : (rows : List (List ℕ)) (second : ℕ) → RowsOf q store m l rows second → (sorted record_order (map key_row a.put) ≡ rows) × (d' ≡ second)
     are rows second h =
         let z = finds a h.front h.tries h.m_is h.l_is h.good h.holds in (
           ap (sorted record_order) (rows_of z.entries ∙ ap (map row) z.are)
               ∙ sorted_rows (found_in q l h.tries) (rw z.are at (fit_rows z.entries))
               ∙ sym h.rows_are,
-          z.nodes ∙ sym h.nodes_are,
+          same ∙ z.nodes ∙ sym h.nodes_are,
         )

@@ -33,6 +33,6 @@ returns c =
           let part = w.trie.ensures in
           let r = w.search_trie-nodes.ensures in
           let e : c.loop-k.k + 1 ≡ o.front.l + 1 = omega arith in
-          rw (w.output-is, w.nodes-is)
-          (walked (rw e at (searched_next i.found i.room part r (omega arith) (trie_few part o.front.m_high o.front.l_high o.whole) c.requires)) (search (rules, r.same_reference, i.same_reference)))
+          rw w.output-is
+          (walked (rw e at (searched_next i.found i.room part r (omega arith) (trie_few part o.front.m_high o.front.l_high o.whole) c.requires)) (search (rules, r.same_reference, i.same_reference)) w.nodes-is)
     ]
