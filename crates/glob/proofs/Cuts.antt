@@ -1,9 +1,9 @@
--- The first label of a list, cut off: `Cut`, and what the laws of `fit` say under it. Assumes nothing.
+-- The first label of a list: `FirstLabel`, and what the laws of `fit` say under it. Assumes nothing.
 use mathlib.Core.Path.{◌≡◌, refl, sym, ap, subst, ◌∙◌}
 use mathlib.Core.List.{List, [], ◌∷◌}
 use mathlib.Core.Bool.{Bool, true, false, cond, ◌&&◌}
 use mathlib.Core.Logic.{⊎_elim}
-use Prim.Native.Nat.{ℕ, zero, suc, ◌+◌, ◌-◌, ◌*◌, ◌<◌, ◌≤◌}
+use Prim.Native.Nat.{ℕ, zero, suc, ◌+◌, ◌-◌, ◌<◌, ◌≤◌}
 use native.Mathlib.Decide.{dec_le}
 use native.Mathlib.Nat.{lt_of_not-le}
 use native.Mathlib.Omega.{arith}
@@ -13,9 +13,9 @@ use lib.Dec.{eqb}
 use borrow.Author.Tests.{eq-eqb, ne_eqb, eqb-true}
 use Rattle.buffer.specs.Lists.{none}
 use Rattle.glob.specs.Bytes.{slash, star}
-use Rattle.glob.specs.Labels.{up_to_slash, labels_of, deep}
+use Rattle.glob.specs.Labels.{up_to_slash, labels_of, deep, Begun, FirstLabel}
 use Rattle.glob.specs.Fit.{after_some, first, fit, fits_label, fit_labels}
-use Rattle.glob.specs.Inner.{Says, Begun, Cut, OffLabels, Single}
+use Rattle.glob.specs.Inner.{Says, OffLabels}
 use Rattle.glob.specs.declared.fit.Trial.{Trial}
 use Rattle.buffer.proofs.Tests.{and_false, not_both, same?}
 use Rattle.glob.proofs.Parts.{tail_part, no_items, front, back, back_step, back_end, length_back, step}
@@ -82,52 +82,32 @@ skip_labels s r h =
 pub begun_next : (s : List ℕ) (from r : ℕ) → r ≡ from + length (up_to_slash (drop from s)) → Begun (back s r)
 begun_next s from r h = rw (tail_part r s, h, ← drop-drop (length (up_to_slash (drop from s))) from s) (begun_up (drop from s))
 
-pub cut_law : (s : List ℕ) (r : ℕ) → (length s ≡ 0 → ⊥) → Begun s → r ≡ 1 + length (up_to_slash (drop 1 s)) → r ≤ 1 + (length s - 1) → Cut s r
-cut_law [] r f b h l = absurd (f refl)
-cut_law (c ∷ t) r f b h l =
+-- the first label ends at r
+pub first_law : (s : List ℕ) (r : ℕ) → none (labels_of s) ≡ false → Begun s → r ≡ 1 + length (up_to_slash (drop 1 s)) → FirstLabel s (front s r) (back s r)
+first_law [] r f b h = not_both refl f
+first_law (c ∷ t) r f b h =
     let more : r ≡ suc (length (up_to_slash t)) = omega arith in
     let over : take (length (c ∷ t) - r) (drop r (c ∷ t)) ≡ drop (length (up_to_slash t)) t = tail_part r (c ∷ t) ∙ rw more in
     let less : r - 1 ≡ length (up_to_slash t) = omega arith in
     record {
-      low = omega arith;
-      high = omega arith;
-      labels = rw (over, less, take_up t, ← drop_up t) (rw (eq-eqb c slash (b f)));
-      begun = rw over (begun_up t);
+      labels = rw (over, less, take_up t, ← drop_up t) (rw (eq-eqb c slash (b (λ z. absurd (omega arith)))));
+      shorter = let m = length_back (c ∷ t) r in omega arith;
     }
-
--- the label that begins at a ends at r
-pub label_at : (s : List ℕ) (a r : ℕ) → a < length s → Begun (drop a s) → r ≡ a + 1 + length (up_to_slash (drop (a + 1) s)) → labels_of (drop a s) ≡ take (r - (a + 1)) (drop (a + 1) s) ∷ labels_of (drop r s)
-label_at s a r l g h =
-    let t = drop (a + 1) s in
-    let here : Begun (get_or s a 0 ∷ t) = subst Begun (step s a l) g in
-    let whole : labels_of (drop a s) ≡ up_to_slash t ∷ labels_of t = ap labels_of (step s a l) ∙ rw (eq-eqb (get_or s a 0) slash (here (λ z. absurd (omega arith)))) in
-    let less : r - (a + 1) ≡ length (up_to_slash t) = omega arith in
-    let over : drop r s ≡ drop (length (up_to_slash t)) t = rw (h, ← drop-drop (length (up_to_slash t)) (a + 1) s) in
-    whole ∙ rw (less, over, take_up t, ← drop_up t)
 
 pub no_labels : (s : List ℕ) → length s ≡ 0 → labels_of s ≡ []
 no_labels s e = ap labels_of (no_items s e)
 
-pub labels_end_law : (p : List ℕ) → length p ≡ 0 → fit_labels (labels_of p) ≡ none
+-- where no labels are left of a pattern, none may be left of a path
+pub end_labels : (ps : List (List ℕ)) → none ps ≡ true → fit_labels ps ≡ none
 unfolding fit
-labels_end_law p e = ap fit_labels (no_labels p e)
+end_labels [] e = refl
+end_labels (p ∷ ps) e = not_both e refl
 
-pub some_labels : (s : List ℕ) → (length s ≡ 0 → ⊥) → Begun s → none (labels_of s) ≡ false
-some_labels [] f b = absurd (f refl)
-some_labels (c ∷ s) f b = rw (eq-eqb c slash (b f))
+pub one_law : (s l t : List ℕ) → FirstLabel s l t → deep l ≡ false → fit_labels (labels_of s) ≡ first (fits_label l) (fit_labels (labels_of t))
+one_law s l t h e = ap fit_labels h.labels ∙ fit_one deep fits_label l (labels_of t) e
 
-pub one_law : (p : List ℕ) (a : ℕ) → Cut p a → deep (front p a) ≡ false → fit_labels (labels_of p) ≡ first (fits_label (front p a)) (fit_labels (labels_of (back p a)))
-one_law p a h e = ap fit_labels h.labels ∙ fit_one deep fits_label (front p a) (labels_of (back p a)) e
-
-pub deep_law : (p : List ℕ) (a : ℕ) → Cut p a → deep (front p a) ≡ true → fit_labels (labels_of p) ≡ after_some (fit_labels (labels_of (back p a)))
-deep_law p a h e = ap fit_labels h.labels ∙ fit_wild deep fits_label (front p a) (labels_of (back p a)) e
-
--- without their first labels both are shorter
-pub cut_falls : (p s : List ℕ) (a b : ℕ) → Cut p a → Cut s b → 2 * (length (back p a) + length (back s b)) < 2 * (length p + length s)
-cut_falls p s a b h g =
-    let l = length_back p a in
-    let m = length_back s b in
-    omega arith
+pub deep_law : (s l t : List ℕ) → FirstLabel s l t → deep l ≡ true → fit_labels (labels_of s) ≡ after_some (fit_labels (labels_of t))
+deep_law s l t h e = ap fit_labels h.labels ∙ fit_wild deep fits_label l (labels_of t) e
 
 -- where a label begins, and at the end
 slash_at : (s : List ℕ) (b : ℕ) → b < length s → Begun (back s b) → get_or s b 0 ≡ slash
@@ -168,12 +148,16 @@ tried_place ps s u b l e y = elim (dec_le (length s) b) [ yes z ↦ tried_label 
 pub off_up : (ps : List (List ℕ)) (s : List ℕ) (i r : ℕ) → r ≡ i + length (up_to_slash (drop i s)) → r ≤ i + (length s - i) → (j : ℕ) → i ≤ j → j < r → OffLabels ps s j
 off_up ps s i r h l j z m e = absurd (up_none (drop i s) (j - i) (omega arith) (get_or-drop i s (j - i) 0 ∙ ap (λ (n : ℕ). get_or s n 0) (omega arith) ∙ slash_at s j (omega arith) e))
 
-pub first_cut : (f : List ℕ → Bool) (k : List (List ℕ) → Bool) (s : List ℕ) (b : ℕ) (r : Trial) → Cut s b → f (front s b) ≡ true → Says k (labels_of (back s b)) r → Says (first f k) (labels_of s) r
-first_cut f k s b r h e y =
-    subst (λ (l : List (List ℕ)). Says (first f k) l r) (sym h.labels) (first_on k f (front s b) (labels_of (back s b)) r e y)
+pub first_cut : (f : List ℕ → Bool) (k : List (List ℕ) → Bool) (s l t : List ℕ) (r : Trial) → FirstLabel s l t → f l ≡ true → Says k (labels_of t) r → Says (first f k) (labels_of s) r
+first_cut f k s l t r h e y = subst (λ (ls : List (List ℕ)). Says (first f k) ls r) (sym h.labels) (first_on k f l (labels_of t) r e y)
 
-pub first_not : (f : List ℕ → Bool) (k : List (List ℕ) → Bool) (s : List ℕ) (b : ℕ) → Cut s b → f (front s b) ≡ false → first f k (labels_of s) ≡ false
-first_not f k s b h e = subst (λ (l : List (List ℕ)). first f k l ≡ false) (sym h.labels) (first_off k f (front s b) (labels_of (back s b)) e)
+-- there is no first label
+pub none_first : (f : List ℕ → Bool) (k : List (List ℕ) → Bool) (ls : List (List ℕ)) → none ls ≡ true → after_some (first f k) ls ≡ false
+none_first f k [] e = refl
+none_first f k (l ∷ ls) e = not_both e refl
+
+pub first_not : (f : List ℕ → Bool) (k : List (List ℕ) → Bool) (s l t : List ℕ) → FirstLabel s l t → f l ≡ false → first f k (labels_of s) ≡ false
+first_not f k s l t h e = subst (λ (ls : List (List ℕ)). first f k ls ≡ false) (sym h.labels) (first_off k f l (labels_of t) e)
 
 -- labels that begin with different bytes, the pattern's with no `*`
 pub unlike_fits : (c d : ℕ) (p s : List ℕ) → (c ≡ star → ⊥) → (c ≡ d → ⊥) → fits_label (up_to_slash (c ∷ p)) (up_to_slash (d ∷ s)) ≡ false
@@ -227,13 +211,9 @@ module _ (p s : List ℕ) (l : 1 < length p) (f : Begun p) (w : get_or p 1 0 ≡
   pub off_last : (get_or p 1 0 ≡ slash → ⊥) → (i : ℕ) → length s ≤ i + 1 → OffLabels (labels_of p) s i
   off_last v i m = short_law p (back s i) l f w v (omega (arith, length_back s i))
 
--- a pattern is one label, and not `**`
-pub single_law : (p : List ℕ) → Cut p (length p) → deep (front p (length p)) ≡ false → Single p
-single_law p h d =
-    record {
-      some = h.low;
-      takes = one_law p (length p) h d ∙ ap (first (fits_label (front p (length p)))) (labels_end_law (back p (length p)) (back_end p (length p) (omega arith)));
-    }
+-- a pattern is one label, l, and not `**`
+pub single_law : (p l t : List ℕ) → FirstLabel p l t → none (labels_of t) ≡ true → deep l ≡ false → fit_labels (labels_of p) ≡ first (fits_label l) none
+single_law p l t h e d = one_law p l t h d ∙ ap (first (fits_label l)) (end_labels (labels_of t) e)
 
 -- a list without `/` stands before its first `/`, and has no label
 no_slash : (t : List ℕ) → length (up_to_slash t) ≡ length t → (up_to_slash t ≡ t) × (labels_of t ≡ [])

@@ -4,6 +4,5 @@ pub mod Places
 pub mod Skips
 pub mod Trials
 pub mod Cuts
-mod Begins
 mod Shared
 pub mod Worked

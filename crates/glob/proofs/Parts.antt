@@ -6,8 +6,6 @@ use native.Mathlib.Numerals.{add-one}
 use native.Mathlib.Omega.{arith}
 use lib.ListN.{length, take, drop, get_or, length-drop}
 use lib.Seq.{drop-cons, drop-drop}
-use mathlib.Core.Bool.{false}
-use Rattle.buffer.specs.Lists.{none}
 pub use Rattle.buffer.proofs.Lists.{tail_part, no_items}
 
 pub an_item : {A : Type 0} (d : A) (l : List A) → (length l ≡ 0 → ⊥) → l ≡ get_or l 0 d ∷ drop 1 l

@@ -2,7 +2,7 @@
 use mathlib.Core.Path.{◌≡◌, refl, sym, ap, ap₂, subst, ◌∙◌}
 use mathlib.Core.List.{List, [], ◌∷◌, ◌++◌, append_assoc}
 use mathlib.Core.Bool.{Bool, true, false, cond, ◌&&◌}
-use Prim.Native.Nat.{ℕ, ◌+◌, ◌*◌, ◌<◌, ◌≤◌}
+use Prim.Native.Nat.{ℕ, ◌+◌, ◌<◌, ◌≤◌}
 use native.Mathlib.Omega.{arith}
 use lib.ListN.{length, get_or}
 use lib.Dec.{eqb}
@@ -12,13 +12,13 @@ use Rattle.buffer.specs.Lists.All.{nil, cons}
 use Rattle.buffer.proofs.Lists.{all_head, all_tail, all_append}
 use Rattle.buffer.proofs.Tests.{and_false}
 use Rattle.glob.specs.Bytes.{slash, star}
-use Rattle.glob.specs.Labels.{up_to_slash, labels_of, deep}
+use Rattle.glob.specs.Labels.{up_to_slash, labels_of, deep, Begun}
 use Rattle.glob.specs.Fit.{first, fits_label, fit_labels}
-use Rattle.glob.specs.Inner.{Says, Begun, SharedLabels, AlikeLabels}
+use Rattle.glob.specs.Inner.{Says, SharedLabels, AlikeLabels}
 use Rattle.glob.specs.declared.fit.Trial.TheVariants.{Fails}
-use Rattle.glob.proofs.Parts.{no_items, back, back_all, back_step, back_end, length_back}
+use Rattle.glob.proofs.Parts.{no_items, back, back_all, back_step, back_end}
 use Rattle.glob.proofs.Trials.{fit_one, first_on, end_law}
-use Rattle.glob.proofs.Cuts.{labels_end_law, unlike_fits, plain_not_deep}
+use Rattle.glob.proofs.Cuts.{end_labels, unlike_fits, plain_not_deep}
 
 -- a byte that is neither `*` nor `/`
 abbrev Own : ℕ → Type 0
@@ -145,15 +145,8 @@ module _ (p s : List ℕ) where
         shared_fails (ap (λ (t : List ℕ). deep (up_to_slash t)) b) (ap₂ (λ (x y : List ℕ). fits_label (up_to_slash x) (up_to_slash y) && fit_labels (labels_of x) (labels_of y)) b (back_step s i m) ∙ more (get_or s i 0) (back s (i + 1)))
       where
         more : (c : ℕ) (t : List ℕ) → fits_label [] (up_to_slash (c ∷ t)) && fit_labels [] (labels_of (c ∷ t)) ≡ false
-        more c t = rw (end_law [] refl, labels_end_law [] refl) (go (eqb c slash))
+        more c t = rw (end_law [] refl, end_labels [] refl) (go (eqb c slash))
           where
             go : (b : Bool) → none (cond b [] (c ∷ up_to_slash t)) && none (cond b (up_to_slash t ∷ labels_of t) (labels_of t)) ≡ false
             go true = refl
             go false = refl
-
--- without them both are shorter
-pub shared_falls : (p s : List ℕ) (r : ℕ) → 0 < r → SharedLabels p s r → 2 * (length (back p r) + length (back s r)) < 2 * (length p + length s)
-shared_falls p s r z h =
-    let l = length_back p r in
-    let m = length_back s r in
-    omega (arith, h.in_pattern, h.in_path)

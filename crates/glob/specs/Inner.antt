@@ -1,9 +1,7 @@
 -- What the functions below the public ones promise. No public contract cites these.
-use Rattle.std.specs.Prelude.{ℕ, ◌+◌, ◌-◌, ◌<◌, ◌≤◌, ◌≡◌, List, ◌∷◌, Bool, true, false, length, take, drop, get_or}
-use Rattle.buffer.specs.Lists.{none}
-use Rattle.glob.specs.Bytes.{slash}
-use Rattle.glob.specs.Labels.{labels_of}
-use Rattle.glob.specs.Fit.{after_some, first, fits_label, fit_labels}
+use Rattle.std.specs.Prelude.{ℕ, ◌+◌, ◌-◌, ◌<◌, ◌≤◌, ◌≡◌, List, Bool, true, false, length, take, drop}
+use Rattle.glob.specs.Labels.{labels_of, Begun}
+use Rattle.glob.specs.Fit.{after_some, fits_label, fit_labels}
 use Rattle.glob.specs.declared.fit.Trial.{Trial}
 use Rattle.glob.specs.declared.fit.Trial.TheVariants.{Fits, Fails, Never}
 
@@ -34,25 +32,9 @@ pub record Skipped (Off : ℕ → Type 0) (n from r : ℕ) : Type 0 where
 abbrev pub OffLabel : List ℕ → List ℕ → ℕ → Type 0
 OffLabel p s i = fits_label p (take (length s - i) (drop i s)) ≡ false
 
--- a list that begins with `/`, if it is not empty
-abbrev pub Begun : List ℕ → Type 0
-Begun l = (length l ≡ 0 → ⊥) → get_or l 0 0 ≡ slash
-
--- the first label of s ends at r: s[1..r] is that label, and s[r..] begins with the next, if there is one
-pub record Cut (s : List ℕ) (r : ℕ) : Type 0 where
-  pub low : 1 ≤ r
-  pub high : r ≤ length s
-  pub labels : labels_of s ≡ take (r - 1) (drop 1 s) ∷ labels_of (take (length s - r) (drop r s))
-  pub begun : Begun (take (length s - r) (drop r s))
-
 -- at i of s, if a label begins there or s has ended, what is left does not fit ps, the labels of a pattern
 abbrev pub OffLabels : List (List ℕ) → List ℕ → ℕ → Type 0
 OffLabels ps s i = Begun (take (length s - i) (drop i s)) → fit_labels ps (labels_of (take (length s - i) (drop i s))) ≡ false
-
--- p, a pattern, is one label, which takes exactly one
-pub record Single (p : List ℕ) : Type 0 where
-  pub some : 1 ≤ length p
-  pub takes : fit_labels (labels_of p) ≡ first (fits_label (take (length p - 1) (drop 1 p))) none
 
 -- a trial of what is left of p, a pattern, and of s from r on is a trial of the whole: so it is behind whole labels that both begin with, none with a `*`
 pub record SharedLabels (p s : List ℕ) (r : ℕ) : Type 0 where

@@ -2,11 +2,11 @@
 ghost use Rattle.std.specs.Prelude.{◌≡◌, true, List, ℕ};
 ghost use Rattle.glob.specs.Labels.{labels_of};
 ghost use Rattle.glob.specs.Begins.{begins_label, begins_labels};
-ghost use Rattle.glob.specs.Inner.{Begun};
 
-use crate::bytes::{SLASH, STAR};
+use crate::bytes::STAR;
 use crate::fit::label_fits;
-use crate::split::{is_deep, next_slash};
+use crate::labels::Labels;
+use crate::split::is_deep;
 
 // Can a label that begins with k fit a label of a pattern?
 fn label_begins(p: &[u8], k: &[u8]) -> bool
@@ -21,25 +21,24 @@ fn label_begins(p: &[u8], k: &[u8]) -> bool
 }
 
 // Can labels, of which the last may go on, fit the pattern that remains?
-fn labels_begin(pattern: &[u8], known: &[u8]) -> bool
-    requires { Begun pattern.now × Begun known.now }
-    ensures { result ≡ begins_labels (labels_of pattern.now) (labels_of known.now) }
+fn labels_begin(pattern: Labels<'_>, known: Labels<'_>) -> bool
+    ensures { result ≡ begins_labels (labels_of pattern.entry.bytes.now) (labels_of known.entry.bytes.now) }
 {
     if pattern.is_empty() {
         return known.is_empty();
     }
-    if known.len() < 2 {
+    if known.bytes.len() < 2 {
         return true; // at most a `/` is known, and any label may follow
     }
-    let a = next_slash(pattern, 1);
-    if is_deep(&pattern[1..a]) {
+    let (p, behind) = pattern.split_first();
+    if is_deep(p) {
         return true;
     }
-    let b = next_slash(known, 1);
-    if b == known.len() {
-        return label_begins(&pattern[1..a], &known[1..b]);
+    let (k, more) = known.split_first();
+    if more.is_empty() {
+        return label_begins(p, k);
     }
-    label_fits(&pattern[1..a], &known[1..b]) && labels_begin(&pattern[a..], &known[b..])
+    label_fits(p, k) && labels_begin(behind, more)
 }
 
 // Is the first label of a pattern a `**`, with others behind it? Then any labels can go on to fit. Four bytes tell, without a label being cut off: a search
@@ -58,7 +57,5 @@ pub fn begins_formed(pattern: &[u8], known: &[u8]) -> bool
     if leads_deep(pattern) {
         return true;
     }
-    let a = next_slash(pattern, 0);
-    let b = next_slash(known, 0);
-    labels_begin(&pattern[a..], &known[b..])
+    labels_begin(Labels::new(pattern), Labels::new(known))
 }

@@ -3,11 +3,12 @@
 ghost use Rattle.std.specs.Prelude.{◌≡◌, true, false, ◌&&◌, ◌+◌, ◌-◌, ◌<◌, ◌≤◌, length, take, drop, get_or, eqb};
 ghost use Rattle.buffer.specs.Lists.{none};
 ghost use Rattle.glob.specs.Bytes.{slash};
-ghost use Rattle.glob.specs.Labels.{labels_of};
+ghost use Rattle.glob.specs.Labels.{labels_of, Begun};
 ghost use Rattle.glob.specs.Fit.{after_some, first, fits_label, fit_labels, fits_path};
-ghost use Rattle.glob.specs.Inner.{Says, is_fit, Alike, Skipped, OffLabel, OffLabels, Begun, Single, AlikeLabels};
+ghost use Rattle.glob.specs.Inner.{Says, is_fit, Alike, Skipped, OffLabel, OffLabels, AlikeLabels};
 
 use crate::bytes::{SLASH, STAR};
+use crate::labels::Labels;
 use crate::split::{bytes_before, is_deep, last_label, next_slash};
 
 // `Never`: it fails now, and also once any of the first bytes (or labels) are taken away.
@@ -96,6 +97,7 @@ fn after_star(p: &[u8], s: &[u8]) -> Trial
 }
 
 // Does a label fit a label of a pattern?
+#[tactic(auto, using(crate::proofs::Trials::says_is))]
 pub fn label_fits(p: &[u8], s: &[u8]) -> bool
     ensures { result ≡ fits_label p.now s.now }
 {
@@ -103,19 +105,20 @@ pub fn label_fits(p: &[u8], s: &[u8]) -> bool
 }
 
 // Do the first labels begin with different bytes, and the pattern's with no `*`? Then it does not fit, and no label has to be cut off.
-fn begin_unlike(pattern: &[u8], path: &[u8]) -> bool
-    requires { Begun pattern.now × Begun path.now }
-    ensures { result ≡ true → fit_labels (labels_of pattern.now) (labels_of path.now) ≡ false }
+fn begin_unlike(pattern: Labels<'_>, path: Labels<'_>) -> bool
+    ensures { result ≡ true → fit_labels (labels_of pattern.entry.bytes.now) (labels_of path.entry.bytes.now) ≡ false }
 {
+    let (pattern, path) = (pattern.bytes, path.bytes);
     pattern.len() > 1 && path.len() > 1 && pattern[1] != STAR && pattern[1] != path[1]
 }
 
 // How many bytes may be passed over at once, since a pattern and a path begin with the same whole labels there, none with a `*`? 0 where none are, and
 // where the path ends first. More than the pattern has where it does not fit: bytes differ before a `*`, or the pattern has none and the path goes on.
-fn equal_labels(pattern: &[u8], path: &[u8]) -> usize
-    requires { (length pattern.now ≡ 0 → ⊥) × Begun pattern.now × Begun path.now }
-    ensures { AlikeLabels pattern.now path.now result }
+fn equal_labels(pattern: Labels<'_>, path: Labels<'_>) -> usize
+    requires { length pattern.bytes.now ≡ 0 → ⊥ }
+    ensures { AlikeLabels pattern.entry.bytes.now path.entry.bytes.now result }
 {
+    let (pattern, path) = (pattern.bytes, path.bytes);
     let mut n = 0;
     for i in 1..pattern.len() {
         if path.len() <= i {
@@ -136,9 +139,8 @@ fn equal_labels(pattern: &[u8], path: &[u8]) -> usize
 
 // Label matching: tries the rest of a path against the pattern that remains.
 #[cycle(descend_labels)]
-fn labels(pattern: &[u8], path: &[u8]) -> Trial
-    requires { Begun pattern.now × Begun path.now }
-    ensures { Says (fit_labels (labels_of pattern.now)) (labels_of path.now) result }
+fn labels(pattern: Labels<'_>, path: Labels<'_>) -> Trial
+    ensures { Says (fit_labels (labels_of pattern.entry.bytes.now)) (labels_of path.entry.bytes.now) result }
 {
     if pattern.is_empty() {
         if path.is_empty() {
@@ -151,23 +153,23 @@ fn labels(pattern: &[u8], path: &[u8]) -> Trial
     }
     let n = equal_labels(pattern, path);
     if n > 0 {
-        if n > pattern.len() {
+        if n > pattern.bytes.len() {
             return Trial::Fails; // but a `**` before may try the next label
         }
-        return labels(&pattern[n..], &path[n..]);
+        return labels(pattern.from(n), path.from(n));
     }
-    let a = next_slash(pattern, 1);
-    if is_deep(&pattern[1..a]) {
-        return descend(&pattern[a..], path);
+    let (p, behind) = pattern.split_first();
+    if is_deep(p) {
+        return descend(behind, path);
     }
     if path.is_empty() {
         return Trial::Never;
     }
-    let b = next_slash(path, 1);
-    if !label_fits(&pattern[1..a], &path[1..b]) {
+    let (s, rest) = path.split_first();
+    if !label_fits(p, s) {
         return Trial::Fails; // but a `**` before may take this label and try the next
     }
-    labels(&pattern[a..], &path[b..]) // where this fails, a `**` before may take this label, though it fits, and try the next
+    labels(behind, rest) // where this fails, a `**` before may take this label, though it fits, and try the next
 }
 
 // Does a label begin at i, and with the byte c? Most bytes are not c, so this is asked first.
@@ -180,10 +182,11 @@ fn begins_with(path: &[u8], i: usize, c: u8) -> bool
 
 // The next place, from one on, at which the rest of a path may fit a pattern. Where the pattern's first label begins with a byte of its own, that
 // byte begins the rest's first label; where there is no such place, one past the end. Else it is where any label begins, or the end.
-fn next_begin(pattern: &[u8], path: &[u8], from: usize) -> usize
-    requires { Begun pattern.now × (from ≤ length path.now + 1) }
-    ensures { Skipped (OffLabels (labels_of pattern.now) path.now) (length path.now) from result × Begun (take (length path.now - result) (drop result path.now)) }
+fn next_begin(pattern: Labels<'_>, path: &[u8], from: usize) -> usize
+    requires { from ≤ length path.now + 1 }
+    ensures { Skipped (OffLabels (labels_of pattern.entry.bytes.now) path.now) (length path.now) from result × Begun (take (length path.now - result) (drop result path.now)) }
 {
+    let pattern = pattern.bytes;
     if pattern.len() < 2 || pattern[1] == STAR || pattern[1] == SLASH {
         return next_slash(path, from);
     }
@@ -193,14 +196,6 @@ fn next_begin(pattern: &[u8], path: &[u8], from: usize) -> usize
         }
     }
     path.len() + 1
-}
-
-// Is a pattern one label, and not `**`? Then it takes exactly one label.
-fn is_single(pattern: &[u8]) -> bool
-    requires { Begun pattern.now }
-    ensures { result ≡ true → Single pattern.now }
-{
-    !pattern.is_empty() && next_slash(pattern, 1) == pattern.len() && !is_deep(&pattern[1..])
 }
 
 // Tries a path against `**` and a last label, which is not `**`: it takes the path's last label, and `**` all before.
@@ -219,23 +214,22 @@ fn try_last(p: &[u8], path: &[u8]) -> Trial
 
 // Descendant matching: tries the rest of a path against `**` and the pattern that remains. `**` takes one label more, or several, in each turn.
 #[cycle(descend_labels)]
-fn descend(pattern: &[u8], path: &[u8]) -> Trial
-    requires { Begun pattern.now × Begun path.now }
-    ensures { Says (after_some (fit_labels (labels_of pattern.now))) (labels_of path.now) result }
+fn descend(pattern: Labels<'_>, path: Labels<'_>) -> Trial
+    ensures { Says (after_some (fit_labels (labels_of pattern.entry.bytes.now))) (labels_of path.entry.bytes.now) result }
 {
     if pattern.is_empty() { // the `**` is the last label
         return Trial::Fits; // it takes all labels that are left
     }
-    if is_single(pattern) {
-        return try_last(&pattern[1..], path);
+    if let Some(label) = pattern.single() {
+        return try_last(label, path.bytes);
     }
-    let mut b = next_begin(pattern, path, 0);
+    let mut b = next_begin(pattern, path.bytes, 0);
     // No `for`, as in `after_star`.
-    while b <= path.len() {
-        match labels(pattern, &path[b..]) {
+    while b <= path.bytes.len() {
+        match labels(pattern, path.from(b)) {
             Trial::Fits => return Trial::Fits,
             Trial::Never => return Trial::Never,
-            Trial::Fails => b = next_begin(pattern, path, b + 1),
+            Trial::Fails => b = next_begin(pattern, path.bytes, b + 1),
         }
     }
     Trial::Never // `**` has taken all labels
@@ -243,10 +237,9 @@ fn descend(pattern: &[u8], path: &[u8]) -> Trial
 
 // Do the labels of a path fit those of a pattern? For callers that know both to be formed, or test that themselves: nothing is checked here. Of any
 // bytes it answers by their labels, which begin at the first `/`. The stack goes as deep as the pattern has bytes.
+#[tactic(auto, using(crate::proofs::Trials::says_is))]
 pub fn fits_formed(pattern: &[u8], path: &[u8]) -> bool
     ensures { result ≡ fits_path pattern.now path.now }
 {
-    let a = next_slash(pattern, 0);
-    let b = next_slash(path, 0);
-    labels(&pattern[a..], &path[b..]).is_fit()
+    labels(Labels::new(pattern), Labels::new(path)).is_fit()
 }

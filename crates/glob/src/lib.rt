@@ -4,5 +4,6 @@
 
 pub mod bytes; // the bytes with a meaning of their own
 pub mod split; // where a label ends
+pub mod labels; // labels one behind the other
 pub mod fit; // do labels fit a pattern?
 pub mod begin; // can labels that begin so fit a pattern?

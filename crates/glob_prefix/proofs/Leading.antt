@@ -14,9 +14,8 @@ use lib.Pointwise.{pointwise}
 use borrow.Author.Tests.{eq-eqb, eqb-true, ne_eqb}
 use Rattle.buffer.proofs.Tests.{not_both, and_left, and_right}
 use Rattle.glob.specs.Bytes.{slash, star}
-use Rattle.glob.specs.Labels.{up_to_slash, labels_of, deep}
+use Rattle.glob.specs.Labels.{up_to_slash, labels_of, deep, Begun}
 use Rattle.glob.specs.Fit.{first, fits_label, fit_labels, fits_path}
-use Rattle.glob.specs.Inner.{Begun}
 use Rattle.glob_prefix.specs.Prefix.{LiteralPrefix, differs, Plain}
 use Rattle.glob.proofs.Parts.{tail_part, no_items, back, step}
 use Rattle.glob.proofs.Trials.{fit_one, end_law}
@@ -108,9 +107,6 @@ pub record Led (pattern : List ℕ) (a : ℕ) : Type 0 where
   pub leads : (path : List ℕ) → Begun path → fits_path pattern path ≡ true
       → (take a path ≡ take a pattern) × Begun (drop a path) × (fit_labels (labels_of (drop a pattern)) (labels_of (drop a path)) ≡ true)
 
-pub led_none : (pattern : List ℕ) → Begun pattern → Led pattern 0
-led_none pattern b = record { within = omega arith; begun = b; leads = λ path g e. (refl, g, e) }
-
 -- what is not empty and begins so is `/` and what stands behind it
 slash_first : (s : List ℕ) → (length s ≡ 0 → ⊥) → Begun s → s ≡ slash ∷ drop 1 s
 slash_first [] f b = absurd (f refl)
@@ -141,13 +137,6 @@ next_label pattern path a n l h d p b e =
       bytes = take-add a (suc n) path ∙ ap₂ ◌++◌ was.0 (ap (take (suc n)) under ∙ ap (λ (s : List ℕ). slash ∷ s) same.bytes ∙ sym (ap (take (suc n)) pat)) ∙ sym (take-add a (suc n) pattern);
       rest = λ z. let g = same.rest z in (subst Begun left g.0, sym (ap₂ (λ (x y : List ℕ). fit_labels (labels_of x) (labels_of y)) over left) ∙ g.1);
     }
-
--- from what is led to what is promised
-pub led_prefix : (pattern : List ℕ) (a : ℕ) → Led pattern a → LiteralPrefix pattern a
-led_prefix pattern a h = record { in_pattern = h.within; begins = λ path b e. (h.leads path (λ f. b) e).0 }
-
-pub no_prefix : (pattern : List ℕ) → LiteralPrefix pattern 0
-no_prefix pattern = record { in_pattern = omega arith; begins = λ path b e. refl }
 
 -- the label of the pattern from a on, with its `/` of r bytes, is not `**`, and n bytes of it are plain
 module _ (pattern : List ℕ) (a r n : ℕ) (l : a < length pattern) (h : Led pattern a) (cut : r ≡ 1 + length (up_to_slash (drop 1 (back pattern a))))

@@ -2,10 +2,10 @@
 use mathlib.Core.Path.{◌≡◌, refl, sym, ap, ap₂, ◌∙◌}
 use mathlib.Core.List.{List, [], ◌∷◌}
 use mathlib.Core.Bool.{Bool, true, false, not, cond, ◌&&◌}
-use Prim.Native.Nat.{ℕ, suc, ◌+◌, ◌-◌, ◌<◌, ◌≤◌}
+use Prim.Native.Nat.{ℕ, suc, ◌+◌, ◌-◌, ◌<◌}
 use native.Mathlib.Nat.{add-zero}
 use native.Mathlib.Omega.{arith}
-use lib.ListN.{length, drop, get_or, drop_of_length-le}
+use lib.ListN.{length, drop, get_or}
 use lib.Seq.{get_or-drop}
 use lib.Dec.{eqb}
 use borrow.Author.Tests.{eq-eqb, ne_eqb}
@@ -17,7 +17,7 @@ use Rattle.matcher.specs.Reach.{begins_path}
 use Rattle.buffer.proofs.Tests.{and_false, not_both}
 use Rattle.glob.specs.Inner.{Skipped}
 use Rattle.glob.proofs.Skips.{through}
-use Rattle.glob.proofs.Parts.{step, no_items}
+use Rattle.glob.proofs.Parts.{step}
 
 -- c may stand before next
 abbrev pub may_stand : ℕ → ℕ → ℕ → Bool
@@ -42,9 +42,6 @@ module _ (m : ℕ) (s : List ℕ) (i : ℕ) (l : i < length s) where
 pub apart_past : (m : ℕ) (s : List ℕ) (n from r : ℕ) → label_byte m ≡ false → n < length s → Skipped (LabelAt s) n from r → apart m (drop from s) ≡ apart m (drop r s)
 apart_past m s n from r e l a =
     through (LabelAt s) n from (λ (i : ℕ). apart m (drop from s) ≡ apart m (drop i s)) (λ i h f q. q ∙ apart_on m s i (omega arith) (sym (label_stands m _ _ e f))) r a refl
-
-pub apart_end : (m : ℕ) (s : List ℕ) (i : ℕ) → length s ≤ i → apart m (drop i s) ≡ true
-apart_end m s i l = ap (apart m) (drop_of_length-le s l)
 
 -- bytes that begin a path, and are some
 pub begins_some : (k : List ℕ) → (length k ≡ 0 → ⊥) → begins_path k ≡ eqb (get_or k 0 0) slash && apart slash k

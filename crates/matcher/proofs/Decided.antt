@@ -8,7 +8,7 @@ use lib.Dec.{eqb}
 use borrow.Author.Tests.{eqb-true}
 use Rattle.buffer.specs.Lists.{none, all}
 use Rattle.matcher.specs.Bytes.{slash, star, end_byte, label_byte}
-use Rattle.glob.specs.Inner.{Begun}
+use Rattle.glob.specs.Labels.{Begun}
 use Rattle.matcher.specs.Labels.{labels_of}
 use Rattle.matcher.specs.Form.{apart, path_label, pattern_label, formed_pattern, path_form, pattern_form, is_fine}
 use Rattle.matcher.specs.Fit.{fit, fit_labels, fits_path}

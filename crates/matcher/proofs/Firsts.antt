@@ -7,11 +7,10 @@ use Prim.Native.Nat.{ℕ, suc, ◌-◌, ◌≤◌}
 use native.Mathlib.Omega.{arith}
 use lib.ListN.{length, take, drop_of_length-le}
 use lib.Seq.{split_at}
-use lib.Dec.{eqb}
 use borrow.Author.Tests.{eq-eqb, eqb-true}
 use Rattle.buffer.specs.Lists.{none}
 use Rattle.buffer.proofs.Tests.{not_both, and_both}
-use Rattle.glob.proofs.Parts.{no_items, last_place}
+use Rattle.glob.proofs.Parts.{last_place}
 use Rattle.matcher.specs.Bytes.{end_byte}
 use Rattle.matcher.specs.Form.{formed_path}
 use Rattle.matcher.specs.Continued.{ended, FirstBytes}

@@ -8,7 +8,7 @@ use lib.Dec.{eqb}
 use borrow.Author.Tests.{eq-eqb, ne_eqb, eqb-true}
 use Rattle.buffer.specs.Lists.{none, all}
 use Rattle.matcher.specs.Bytes.{slash, end_byte, label_byte}
-use Rattle.glob.specs.Inner.{Begun}
+use Rattle.glob.specs.Labels.{Begun}
 use Rattle.matcher.specs.Labels.{up_to_slash, labels_of}
 use Rattle.matcher.specs.Form.{path_label, formed_path}
 use Rattle.buffer.proofs.Tests.{not_both, and_left, and_right}

@@ -61,10 +61,6 @@ module _ (pattern known s : List ℕ) (n : ℕ) (h : LiteralPrefix pattern n) (l
       go Incomplete t = not_both e (behind t.0)
       go Mismatch t = refl
 
--- a test that says no promises nothing
-pub not_ruled : (pattern : List ℕ) (literal p : ℕ) (s : List ℕ) → RuledOut pattern literal p s false
-not_ruled pattern literal p s = record { mismatch = λ h e. not_both e refl }
-
 pub by_difference : (pattern : List ℕ) (literal p : ℕ) (s : List ℕ) (r : Bool) → p ≤ literal → r ≡ differs (take (literal - p) (drop p pattern)) s → RuledOut pattern literal p s r
 by_difference pattern literal p s r l e = record {
   mismatch = λ h t known is. ruled_out pattern known s literal h (omega arith) (ap (λ (i : ℕ). differs (take (literal - i) (drop i pattern)) s) is ∙ sym e ∙ t);

@@ -1,14 +1,14 @@
 // Is a path, is a pattern formed? Lengths are tested first, so the other tests see at most 200 bytes.
 ghost use Rattle.std.specs.Prelude.{◌≡◌};
 ghost use Rattle.buffer.specs.Lists.{all};
-ghost use Rattle.glob.specs.Inner.{Begun};
 ghost use Rattle.matcher.specs.Labels.{labels_of};
 ghost use Rattle.matcher.specs.Form.{pattern_label, formed_path, formed_pattern, path_form, pattern_form, path_number, pattern_number};
 ghost use Rattle.matcher.specs.Reach.{begins_path};
 
 use crate::bytes::{PATH_LIMIT, PATTERN_LABEL_LIMIT, SLASH, STAR};
 use crate::runs::are_apart;
-use glob::split::{is_deep, label_count, next_slash};
+use glob::labels::Labels;
+use glob::split::{is_deep, label_count};
 
 // Why a path or a pattern is turned down. `TooLong`: over 200 bytes, or a pattern with over 32 `/`.
 #[derive(Clone, Copy, PartialEq, Eq, Debug)]
@@ -48,6 +48,7 @@ pub(crate) fn begins_path(known: &[u8]) -> bool
 }
 
 // Is this a path, of any length? One that ends with `/` has an empty label.
+#[tactic(auto, using(crate::proofs::Apart::ends_slash, crate::proofs::Apart::ends_label))]
 pub(crate) fn is_path(path: &[u8]) -> bool
     ensures { result ≡ formed_path path.now }
 {
@@ -59,6 +60,7 @@ pub(crate) fn is_path(path: &[u8]) -> bool
 }
 
 // The form of a path: length first, then its labels.
+#[tactic(auto, unfolding(crate::specs::Form::path_form))]
 pub fn check_path(path: &[u8]) -> Result<(), FormError>
     ensures { result ≡ path_form path.now }
 {
@@ -81,17 +83,16 @@ fn is_pattern_label(l: &[u8]) -> bool
 
 // Is each label of a pattern formed?
 fn are_pattern_labels(pattern: &[u8]) -> bool
-    requires { Begun pattern.now }
     ensures { result ≡ all pattern_label (labels_of pattern.now) }
 {
-    let mut a = 0;
+    let mut labels = Labels::new(pattern);
     // No `for`: a turn takes a label.
-    while a < pattern.len() {
-        let b = next_slash(pattern, a + 1);
-        if !is_pattern_label(&pattern[a + 1..b]) {
+    while !labels.is_empty() {
+        let (label, others) = labels.split_first();
+        if !is_pattern_label(label) {
             return false;
         }
-        a = b;
+        labels = others;
     }
     true
 }
@@ -105,6 +106,7 @@ fn is_pattern(pattern: &[u8]) -> bool
 
 // The form of a pattern: too long, or of too many labels, comes before malformed. A label takes its `/` and at least one byte, so a formed pattern of few
 // bytes is not counted.
+#[tactic(auto, unfolding(crate::specs::Form::pattern_form), using(crate::proofs::Forms::pattern_long))]
 pub fn check_pattern(pattern: &[u8]) -> Result<(), FormError>
     ensures { result ≡ pattern_form pattern.now }
 {

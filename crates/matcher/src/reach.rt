@@ -70,6 +70,7 @@ pub fn reach_from(pattern: &[u8], literal: usize, known: &[u8]) -> Answer
 
 // Can a path whose first bytes, the end byte possibly among them, are `known` match the pattern? A pattern that is not
 // formed, and bytes that begin no path, are a mismatch.
+#[tactic(auto, unfolding(crate::specs::Reach::reach_of), using(crate::proofs::Decided::reached))]
 pub fn reach(pattern: &[u8], known: &[u8]) -> Answer
     ensures { Reached pattern.now known.now result }
 {
@@ -94,6 +95,7 @@ pub fn ruled_out(pattern: &[u8], literal: usize, p: usize, s: &[u8]) -> bool
 }
 
 // Does at most one byte lead on from p bytes of a path? The pattern's, as long as every path that fits has it there; where it says no, nothing is known.
+#[tactic(auto, using(crate::proofs::Ruled::leads_alone))]
 pub fn one_leads(literal: usize, p: usize) -> bool
     ensures { (pattern : List ℕ) → OneLeads pattern literal p result }
 {

@@ -8,7 +8,7 @@ use Rattle.glob.proofs.fit.begin_unlike.Goals as goal
 
 pub returns-then-pattern-ne-STAR : goal.returns-then-pattern-ne-STAR
 returns-then-pattern-ne-STAR c z =
-    let l : 1 < length c.args.pattern.now = grind arith in
-    let m : 1 < length c.args.path.now = grind arith in
-    let w : get_or c.args.pattern.now 1 0 ≡ star → ⊥ = grind arith in
-    unlike_law c.args.pattern.now c.args.path.now l m c.requires.0 c.requires.1 w (λ y. not_both (eq-eqb _ _ y) (not-true _ z))
+    let l : 1 < length c.args.pattern.bytes.now = grind arith in
+    let m : 1 < length c.args.path.bytes.now = grind arith in
+    let w : get_or c.args.pattern.bytes.now 1 0 ≡ star → ⊥ = grind arith in
+    unlike_law c.args.pattern.bytes.now c.args.path.bytes.now l m c.args.pattern.begun c.args.path.begun w (λ y. not_both (eq-eqb _ _ y) (not-true _ z))

@@ -13,28 +13,22 @@ use Rattle.glob.proofs.fit.equal_labels.Goals.{then-pattern-i-eq-SLASH, else-pat
 
 pub loop-i-init : goal.loop-i-init
 loop-i-init c =
-    let p = c.args.pattern.now in
-    let s = c.args.path.now in
-    (shared_none p s c.requires.1 c.requires.2, λ m. (omega arith, run_first p s (omega (arith, c.requires.0)) (omega arith) c.requires.1 c.requires.2))
-
-pub returns-then-path-i : goal.returns-then-path-i
-returns-then-path-i c = alike_shared _ _ _ c.loop-i.invariant.0
-
-pub returns-then-pattern-i-eq-STAR : goal.returns-then-pattern-i-eq-STAR
-returns-then-pattern-i-eq-STAR c = alike_shared _ _ _ c.loop-i.invariant.0
+    let p = c.args.pattern.bytes.now in
+    let s = c.args.path.bytes.now in
+    (shared_none p s c.args.pattern.begun c.args.path.begun, λ m. (omega arith, run_first p s (omega (arith, c.requires)) (omega arith) c.args.pattern.begun c.args.path.begun))
 
 pub returns-then-pattern-i : goal.returns-then-pattern-i
 returns-then-pattern-i c =
-    let p = c.args.pattern.now in
-    let s = c.args.path.now in
+    let p = c.args.pattern.bytes.now in
+    let s = c.args.path.bytes.now in
     let m : c.loop-i.i < length s = omega (arith, c.if-path-i.false) in
     alike_off p s (length p + 1) (omega arith)
     (shared_unlike p s c.loop-i.n c.loop-i.i (c.loop-i.invariant.1 (λ z. omega (arith, m))).1 c.loop-i-test.true (omega (arith, m)) c.if-pattern-i-eq-STAR.false (λ z. omega (arith, z, c.if-pattern-i.true)) c.loop-i.invariant.0)
 
 pub loop-i-preserved : goal.loop-i-preserved
 loop-i-preserved c =
-    let p = c.args.pattern.now in
-    let s = c.args.path.now in
+    let p = c.args.pattern.bytes.now in
+    let s = c.args.path.bytes.now in
     let i = c.loop-i.i in
     let l = c.loop-i-test.true in
     let m : i < length s = omega (arith, c.if-path-i.false) in
@@ -51,8 +45,8 @@ loop-i-preserved c =
 -- the pattern has ended
 pub returns : goal.returns
 returns c =
-    let p = c.args.pattern.now in
-    let s = c.args.path.now in
+    let p = c.args.pattern.bytes.now in
+    let s = c.args.path.bytes.now in
     let n = c.loop-i.n in
     let i = c.loop-i.i in
     let a = c.loop-i.invariant.0 in

@@ -3,16 +3,12 @@ use mathlib.Core.Path.{◌≡◌, sym, ◌∙◌}
 use mathlib.Core.List.{List}
 use Prim.Native.Nat.{ℕ, ◌+◌, ◌-◌, ◌<◌, ◌≤◌}
 use native.Mathlib.Omega.{arith}
-use lib.ListN.{length, drop, get_or}
-use lib.Dec.{eqb}
-use borrow.Author.Tests.{eqb-true}
-use Rattle.buffer.proofs.Tests.{and_right}
-use Rattle.glob.specs.Bytes.{slash}
-use Rattle.glob.specs.Labels.{up_to_slash, labels_of}
-use Rattle.glob.specs.Inner.{Begun, Skipped, OffLabels}
+use lib.ListN.{length, drop}
+use Rattle.glob.specs.Labels.{up_to_slash, labels_of, Begun}
+use Rattle.glob.specs.Inner.{Skipped, OffLabels}
 use Rattle.glob.proofs.Parts.{back}
 use Rattle.glob.proofs.Skips.{skip_none, skip_on, skip_to}
-use Rattle.glob.proofs.Cuts.{begun_next, begun_at, begun_end, off_up, off_unlike, off_last}
+use Rattle.glob.proofs.Cuts.{begun_next, begun_end, off_up, off_unlike, off_last}
 use Rattle.glob.proofs.fit.next_begin.Goals as goal
 
 -- where the pattern's first label may begin with any byte: the next `/`
@@ -20,34 +16,24 @@ up_to : (ps : List (List ℕ)) (s : List ℕ) (from r : ℕ) → (r ≡ from + l
 up_to ps s from r h l = (skip_to (OffLabels ps s) (length s) from from r (omega arith) (omega arith) (off_up ps s from r h.0 h.1) (skip_none (OffLabels ps s) (length s) from l), begun_next s from r h.0)
 
 pub returns-then-pattern-lt2 : goal.returns-then-pattern-lt2
-returns-then-pattern-lt2 c = up_to (labels_of c.args.pattern.now) c.args.path.now c.args.from c.next_slash.result c.next_slash.ensures c.requires.1
-
-pub loop-i-init : goal.loop-i-init
-loop-i-init c = skip_none _ _ _ c.requires.1
-
-pub returns-then-begins_with : goal.returns-then-begins_with
-returns-then-begins_with c =
-    let p = c.args.pattern.now in
-    let s = c.args.path.now in
-    let i = c.loop-i.i in
-    (c.loop-i.invariant, begun_at s i (omega (arith, c.loop-i-test.true)) (eqb-true _ _ (and_right (eqb (get_or s (i + 1) 0) (get_or p 1 0)) (eqb (get_or s i 0) slash) (sym c.begins_with.ensures ∙ c.if-begins_with.true))))
+returns-then-pattern-lt2 c = up_to (labels_of c.args.pattern.bytes.now) c.args.path.now c.args.from c.next_slash.result c.next_slash.ensures c.requires
 
 pub loop-i-preserved : goal.loop-i-preserved
 loop-i-preserved c =
-    let p = c.args.pattern.now in
+    let p = c.args.pattern.bytes.now in
     let s = c.args.path.now in
     let i = c.loop-i.i in
     let l : i + 1 < length s = omega arith in
     skip_on (OffLabels (labels_of p) s) (length s) c.args.from i (omega (arith, l))
-    (off_unlike p s (omega (arith, c.if-pattern-lt2.false)) c.requires.0 c.if-pattern-eq-STAR.false i l (sym c.begins_with.ensures ∙ c.if-begins_with.false))
+    (off_unlike p s (omega (arith, c.if-pattern-lt2.false)) c.args.pattern.begun c.if-pattern-eq-STAR.false i l (sym c.begins_with.ensures ∙ c.if-begins_with.false))
     c.loop-i.invariant
 
 pub returns : goal.returns
 returns c =
-    let p = c.args.pattern.now in
+    let p = c.args.pattern.bytes.now in
     let s = c.args.path.now in (
       skip_to (OffLabels (labels_of p) s) (length s) c.args.from c.loop-i.i (length s + 1) c.loop-i.invariant.high (omega arith)
-          (λ j g m. off_last p s (omega (arith, c.if-pattern-lt2.false)) c.requires.0 c.if-pattern-eq-STAR.false c.if-pattern-eq-SLASH.false j (omega (arith, c.loop-i-test.false)))
+          (λ j g m. off_last p s (omega (arith, c.if-pattern-lt2.false)) c.args.pattern.begun c.if-pattern-eq-STAR.false c.if-pattern-eq-SLASH.false j (omega (arith, c.loop-i-test.false)))
           c.loop-i.invariant,
       begun_end s (length s + 1) (omega arith),
     )

@@ -1,15 +1,13 @@
--- `matcher::form::are_pattern_labels` meets its contract. The invariant: a label begins here, and what holds of the labels from here on is what holds of all.
+-- `matcher::form::are_pattern_labels` meets its contract. The invariant: what holds of the labels that are left is what holds of all.
 use mathlib.Core.Path.{◌≡◌}
-use Prim.Native.Nat.{◌-◌, ◌≤◌}
-use lib.ListN.{length, drop}
+use lib.ListN.{length}
 use Rattle.buffer.specs.Lists.{all}
-use Rattle.glob.specs.Inner.{Begun}
 use Rattle.matcher.specs.Labels.{labels_of}
 use Rattle.matcher.specs.Form.{pattern_label}
 use Rattle.matcher.proofs.form.are_pattern_labels.Given as goal
 
-abbrev pub invariant-loop-a : goal.invariant-loop-a
-invariant-loop-a l = (l.a ≤ length l.pattern) × Begun (drop l.a l.pattern) × (all pattern_label (labels_of l.pattern) ≡ all pattern_label (labels_of (drop l.a l.pattern)))
+abbrev pub invariant-loop-labels : goal.invariant-loop-labels
+invariant-loop-labels l = all pattern_label (labels_of l.pattern) ≡ all pattern_label (labels_of l.labels.bytes.now)
 
-abbrev pub decreases-loop-a : goal.decreases-loop-a
-decreases-loop-a l = length l.pattern - l.a
+abbrev pub decreases-loop-labels : goal.decreases-loop-labels
+decreases-loop-labels l = length l.labels.bytes.now

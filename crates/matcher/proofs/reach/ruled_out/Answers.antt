@@ -1,10 +1,7 @@
 -- `matcher::reach::ruled_out` meets its contract.
 use native.Mathlib.Omega.{arith}
-use Rattle.matcher.proofs.Ruled.{not_ruled, by_difference}
+use Rattle.matcher.proofs.Ruled.{by_difference}
 use Rattle.matcher.proofs.reach.ruled_out.Goals as goal
-
-pub returns-then-literal-p : goal.returns-then-literal-p
-returns-then-literal-p c = let a = c.args in not_ruled a.pattern.now a.literal a.p a.s.now
 
 pub returns : goal.returns
 returns c =

@@ -5,7 +5,7 @@ use Prim.Native.Nat.{◌-◌}
 use native.Mathlib.Omega.{arith}
 use lib.ListN.{length, drop}
 use Rattle.matcher.specs.Form.{apart}
-use Rattle.matcher.proofs.Apart.{apart_past, apart_stop, apart_on, apart_end}
+use Rattle.matcher.proofs.Apart.{apart_past, apart_stop, apart_on}
 use Rattle.matcher.proofs.runs.are_apart.Goals.{After-label_end-end}
 use Rattle.matcher.proofs.runs.are_apart.Goals as goal
 
@@ -24,8 +24,3 @@ pub loop-i-preserved : goal.loop-i-preserved
 loop-i-preserved c =
     let a = c.args in
     (search rules, past (goal.at.loop-i-preserved c).After-label_end-end ∙ apart_on a.mark a.s.now c.label_end-end.result (omega arith) (sym c.may_stand.ensures ∙ c.if-not-may_stand.false))
-
-pub returns : goal.returns
-returns c =
-    let a = c.args in
-    sym (c.loop-i.invariant.1 ∙ apart_end a.mark a.s.now c.loop-i.i c.loop-i-test.false)
