@@ -2,8 +2,8 @@
 -- Assumes nothing.
 use Prim.Native.Nat.{ℕ, zero, suc, ◌+◌, ◌*◌, ◌-◌, ◌^◌, ◌≤◌, ◌<◌}
 use mathlib.Core.Path.{◌≡◌, refl, sym, ap, ◌∙◌}
-use mathlib.Core.Bool.{Bool, true, false, cond, ◌&&◌}
-use mathlib.Core.List.{List, [], ◌∷◌, ◌++◌, append_assoc, append-nil}
+use mathlib.Core.Bool.{Bool, true, false, cond, ◌&&◌, and_comm}
+use mathlib.Core.List.{List, [], ◌∷◌, ◌++◌, append_assoc}
 use native.Mathlib.Omega.{arith}
 use native.Mathlib.Nat.{zero-mul, pow-suc, one-le-pow, zero-lt-suc}
 use lib.ListN.{length, drop, replicate, length-append, length-replicate}
@@ -12,7 +12,7 @@ use borrow.Author.Tests.{leb-true, le-leb}
 use Rattle.buffer.specs.Lists.{all}
 use Rattle.buffer.specs.Numbers.{bytes_of, number, byte}
 use Rattle.buffer.proofs.Tests.{and_left, and_right, and_both, bool_ext, not_both}
-use Rattle.buffer.proofs.Lists.{all_tested, all_test, all_append, all_right}
+use Rattle.buffer.proofs.Lists.{tested_append, tested_right}
 use Rattle.buffer.proofs.Digits.{length_bytes_of, number_bytes_of, number_append, number_below, bytes_of_bytes, bytes_of_number}
 use Rattle.matcher.specs.Bytes.{end_byte}
 use Rattle.matcher.specs.Form.{path_form, is_fine}
@@ -31,7 +31,7 @@ use Rattle.trie_theory.proofs.Prefix.{Prefix, all_begin_prefixes, prefixes_at}
 use Rattle.trie_theory.proofs.Strings.{drop_prefix}
 use Rattle.entries.specs.Keys.{entry_key}
 use Rattle.entries.specs.Query.{Query, in_range, matches_entry, lowest, highest, overlaps, value_reach, is_match, reaches, wants}
-use Rattle.entries.specs.Branch.{ValueContinued, BranchDecided}
+use Rattle.entries.specs.Branch.{ValueContinued, CouldMatch, BranchDecided}
 
 -- ---- numbers
 
@@ -61,61 +61,90 @@ unfolding number bytes_of
 number_few zero x h = omega arith
 number_few (suc j) x h = number_bytes_of j x
 
+-- ---- the tests as bounds
+
+within : (q : Query) (v : ℕ) → in_range q v ≡ true → (q.low ≤ v) × (v ≤ q.high)
+unfolding in_range
+within q v e = (leb-true q.low v (and_left (leb q.low v) (leb v q.high) e), leb-true v q.high (and_right (leb q.low v) (leb v q.high) e))
+
+in_bounds : (q : Query) (v : ℕ) → q.low ≤ v → v ≤ q.high → in_range q v ≡ true
+unfolding in_range
+in_bounds q v l h = and_both (le-leb q.low v l) (le-leb v q.high h)
+
+record Overlap (q : Query) (known : List ℕ) : Type 0 where
+  some : q.low ≤ q.high
+  short : length known ≤ value_size
+  low : lowest known ≤ q.high
+  high : q.low ≤ highest known
+
+module _ (q : Query) (known : List ℕ) where
+  overlap_bounds : overlaps q known ≡ true → Overlap q known
+  unfolding overlaps
+  overlap_bounds e =
+      let range = leb q.low q.high in
+      let short = leb (length known) value_size in
+      let lo = leb (lowest known) q.high in
+      let hi = leb q.low (highest known) in
+      let e₁ = and_right range (short && (lo && hi)) e in
+      let e₂ = and_right short (lo && hi) e₁ in
+      record {
+        some = leb-true _ _ (and_left range (short && (lo && hi)) e);
+        short = leb-true _ _ (and_left short (lo && hi) e₁);
+        low = leb-true _ _ (and_left lo hi e₂);
+        high = leb-true _ _ (and_right lo hi e₂);
+      }
+
+  bounds_overlap : Overlap q known → overlaps q known ≡ true
+  unfolding overlaps
+  bounds_overlap o = and_both (le-leb _ _ o.some) (and_both (le-leb _ _ o.short) (and_both (le-leb _ _ o.low) (le-leb _ _ o.high)))
+
+lowest_is : (known : List ℕ) → lowest known ≡ number known * 256 ^ (value_size - length known)
+unfolding lowest
+lowest_is known = least known (value_size - length known)
+
+highest_is : (known : List ℕ) → highest known + 1 ≡ number known * 256 ^ (value_size - length known) + 256 ^ (value_size - length known)
+unfolding highest
+highest_is known = greatest known (value_size - length known)
+
 -- ---- the value
 
 module _ (q : Query) (known : List ℕ) where
+  abbrev left : ℕ
+  left = value_size - length known
+
   value_found : all byte known ≡ true → overlaps q known ≡ true → ValueContinued q known
-  unfolding overlaps lowest highest in_range
   value_found bytes e =
-      let range = leb q.low q.high in
-      let short = leb (length known) value_size in
-      let j = value_size - length known in
-      let lo = leb (number (known ++ replicate j 0)) q.high in
-      let hi = leb q.low (number (known ++ replicate j 255)) in
-      let r : q.low ≤ q.high = leb-true q.low q.high (and_left range (short && (lo && hi)) e) in
-      let e₁ = and_right range (short && (lo && hi)) e in
-      let n : length known ≤ value_size = leb-true (length known) value_size (and_left short (lo && hi) e₁) in
-      let e₂ = and_right short (lo && hi) e₁ in
-      let h₁ : number (known ++ replicate j 0) ≤ q.high = leb-true _ q.high (and_left lo hi e₂) in
-      let h₂ : q.low ≤ number (known ++ replicate j 255) = leb-true q.low _ (and_right lo hi e₂) in
-      let k = number known * 256 ^ j in
-      let x = q.low - k in
-      let l = least known j in
-      let g = greatest known j in
-      let positive : 1 ≤ 256 ^ j = one-le-pow j 256 (zero-lt-suc 255) in
-      let small : x < 256 ^ j = omega arith in
-      let s = known ++ bytes_of j x in
-      let w : number s ≡ k + x = number_append known (bytes_of j x) ∙ rw (length_bytes_of j x, number_few j x small) in
-      let eight : length s ≡ value_size = length-append known (bytes_of j x) ∙ rw (length_bytes_of j x) (omega arith) in
-      let all_bytes : all byte s ≡ true = all_test byte (all_append (all_tested byte known bytes) (all_tested byte (bytes_of j x) (bytes_of_bytes j x small))) in
-      let under : number s < 256 ^ value_size = rw eight at (number_below s all_bytes) in
+      let o = overlap_bounds q known e in
+      let x = q.low - number known * 256 ^ left in
+      let small : x < 256 ^ left = omega (arith, o.some, o.low, o.high, lowest_is known, highest_is known, one-le-pow left 256 (zero-lt-suc 255)) in
+      let s = known ++ bytes_of left x in
+      let w : number s ≡ number known * 256 ^ left + x = number_append known (bytes_of left x) ∙ rw (length_bytes_of left x, number_few left x small) in
+      let eight : length s ≡ value_size = length-append known (bytes_of left x) ∙ rw (length_bytes_of left x) (omega (arith, o.short)) in
+      let all_bytes : all byte s ≡ true = tested_append byte known (bytes_of left x) bytes (bytes_of_bytes left x small) in
       record {
         value = number s;
-        small = under;
-        is_in_range = and_both (le-leb q.low (number s) (omega arith)) (le-leb (number s) q.high (omega arith));
-        more = bytes_of j x;
+        small = rw eight at (number_below s all_bytes);
+        is_in_range = in_bounds q (number s) (omega arith) (omega (arith, o.some, o.low, lowest_is known));
+        more = bytes_of left x;
         goes_on = sym (rw eight at (bytes_of_number s all_bytes));
       }
 
   value_tested : ValueContinued q known → overlaps q known ≡ true
-  unfolding overlaps lowest highest in_range
   value_tested v =
-      let j = value_size - length known in
       let s = known ++ v.more in
       let eight : length s ≡ value_size = ap length v.goes_on ∙ length_bytes_of value_size v.value in
-      let n : length v.more ≡ j = omega (arith, length-append known v.more, eight) in
-      let a : all byte s ≡ true = ap (all byte) v.goes_on ∙ bytes_of_bytes value_size v.value v.small in
-      let more_bytes : all byte v.more ≡ true = all_test byte (all_right known v.more (all_tested byte s a)) in
-      let is : number s ≡ v.value = ap number v.goes_on ∙ number_bytes_of 7 v.value in
-      let w : number s ≡ number known * 256 ^ j + number v.more = number_append known v.more ∙ rw n in
-      let b : number v.more < 256 ^ j = rw n at (number_below v.more more_bytes) in
-      let l = least known j in
-      let g = greatest known j in
-      let low : q.low ≤ v.value = leb-true q.low v.value (and_left (leb q.low v.value) (leb v.value q.high) v.is_in_range) in
-      let high : v.value ≤ q.high = leb-true v.value q.high (and_right (leb q.low v.value) (leb v.value q.high) v.is_in_range) in
-      and_both (le-leb q.low q.high (omega arith))
-      (and_both (le-leb (length known) value_size (omega (arith, length-append known v.more)))
-      (and_both (le-leb (number (known ++ replicate j 0)) q.high (omega arith)) (le-leb q.low (number (known ++ replicate j 255)) (omega arith))))
+      let n : length v.more ≡ left = omega (arith, length-append known v.more, eight) in
+      let more_bytes = tested_right byte known v.more (ap (all byte) v.goes_on ∙ bytes_of_bytes value_size v.value v.small) in
+      let w : v.value ≡ number known * 256 ^ left + number v.more = sym (ap number v.goes_on ∙ number_bytes_of 7 v.value) ∙ number_append known v.more ∙ rw n in
+      let b : number v.more < 256 ^ left = rw n at (number_below v.more more_bytes) in
+      let r = within q v.value v.is_in_range in
+      bounds_overlap q known
+      (record {
+        some = omega (arith, r.0, r.1);
+        short = omega (arith, length-append known v.more, eight);
+        low = omega (arith, lowest_is known, w, r.1);
+        high = omega (arith, highest_is known, w, b, r.0);
+      })
 
   goes_on_value : goes_on (value_reach q known) ≡ overlaps q known
   unfolding value_reach
@@ -141,57 +170,62 @@ match_goes Match e = refl
 match_goes Incomplete e = not_both e refl
 match_goes Mismatch e = not_both e refl
 
+could_match : (q : Query) (known : Strings) → all byte (at 0 known) ≡ true → reaches q known ≡ true → CouldMatch q known
+unfolding reaches
+could_match q known bytes e =
+    let v = goes_on (value_reach q (at 0 known)) in
+    let p = goes_on (reach_of q.pattern (at 1 known)) in
+    record {
+      value = value_found q (at 0 known) bytes (sym (goes_on_value q (at 0 known)) ∙ and_left v p e);
+      path = continued q.pattern (at 1 known) (and_right v p e);
+    }
+
+could_reach : (q : Query) (known : Strings) → CouldMatch q known → reaches q known ≡ true
+unfolding reaches
+could_reach q known c = and_both (goes_on_value q (at 0 known) ∙ value_tested q (at 0 known) c.value) (goes_on_path q.pattern (at 1 known) c.path)
+
 -- THE TEST OF A BRANCH
 pub branch_decided : BranchDecided
-unfolding reaches
-branch_decided q known bytes = (
-  λ e.
-      let v = goes_on (value_reach q (at 0 known)) in
-      let p = goes_on (reach_of q.pattern (at 1 known)) in
-      record {
-        value = value_found q (at 0 known) bytes (sym (goes_on_value q (at 0 known)) ∙ and_left v p e);
-        path = continued q.pattern (at 1 known) (and_right v p e);
-      },
-  λ c. and_both (goes_on_value q (at 0 known) ∙ value_tested q (at 0 known) c.value) (goes_on_path q.pattern (at 1 known) c.path),
-)
+branch_decided q known bytes = (could_match q known bytes, could_reach q known)
 
 -- ---- bytes that begin others
 
+begins_more : (k s more : List ℕ) → Prefix k s → k ++ (drop (length k) s ++ more) ≡ s ++ more
+begins_more k s more h = sym (append_assoc k (drop (length k) s) more) ∙ ap (λ (l : List ℕ). l ++ more) (drop_prefix k s h)
+
 value_before : (q : Query) (k s : List ℕ) → Prefix k s → ValueContinued q s → ValueContinued q k
 value_before q k s h v =
-    let rest = drop (length k) s in
     record {
       value = v.value;
       small = v.small;
       is_in_range = v.is_in_range;
-      more = rest ++ v.more;
-      goes_on = sym (append_assoc k rest v.more) ∙ ap (λ (l : List ℕ). l ++ v.more) (drop_prefix k s h) ∙ v.goes_on;
+      more = drop (length k) s ++ v.more;
+      goes_on = begins_more k s v.more h ∙ v.goes_on;
     }
 
 path_before : (pattern k s : List ℕ) → Prefix k s → Continued pattern s → Continued pattern k
 path_before pattern k s h c =
-    let rest = drop (length k) s in
     record {
       is_pattern = c.is_pattern;
       first = record {
         path = c.first.path;
         is_path = c.first.is_path;
-        more = rest ++ c.first.more;
-        goes_on = sym (append_assoc k rest c.first.more) ∙ ap (λ (l : List ℕ). l ++ c.first.more) (drop_prefix k s h) ∙ c.first.goes_on;
+        more = drop (length k) s ++ c.first.more;
+        goes_on = begins_more k s c.first.more h ∙ c.first.goes_on;
       };
       fits = c.fits;
     }
 
 -- what can be continued could be continued before
 pub reaches_before : (q : Query) (k s : Strings) → Bytes.all_begin k s ≡ true → all byte (at 0 s) ≡ true → reaches q s ≡ true → reaches q k ≡ true
-unfolding reaches
 reaches_before q k s g bytes e =
-    let v = goes_on (value_reach q (at 0 s)) in
-    let p = goes_on (reach_of q.pattern (at 1 s)) in
     let h = all_begin_prefixes k s g in
-    let c = value_before q (at 0 k) (at 0 s) (prefixes_at 0 k s h) (value_found q (at 0 s) bytes (sym (goes_on_value q (at 0 s)) ∙ and_left v p e)) in
-    let d = path_before q.pattern (at 1 k) (at 1 s) (prefixes_at 1 k s h) (continued q.pattern (at 1 s) (and_right v p e)) in
-    and_both (goes_on_value q (at 0 k) ∙ value_tested q (at 0 k) c) (goes_on_path q.pattern (at 1 k) d)
+    let c = could_match q s bytes e in
+    could_reach q k
+    (record {
+      value = value_before q (at 0 k) (at 0 s) (prefixes_at 0 k s h) c.value;
+      path = path_before q.pattern (at 1 k) (at 1 s) (prefixes_at 1 k s h) c.path;
+    })
 
 -- A KEY THAT MATCHES IS NEVER PASSED OVER: whatever it goes on from can be continued
 pub never_passed : (q : Query) (k : Strings) (x : Key) → all byte (at 0 x.strings) ≡ true → Bytes.all_begin k x.strings ≡ true
@@ -204,57 +238,34 @@ never_passed q k x bytes g e =
 
 -- ---- whole keys
 
+match_when : (b : Bool) → is_match (cond b Match Mismatch) ≡ b
+match_when true = refl
+match_when false = refl
+
 -- a whole value is in range or not
-value_whole : (q : Query) (v : ℕ) → is_match (value_reach q (bytes_of value_size v)) ≡ in_range q v
-unfolding value_reach overlaps lowest highest in_range
-value_whole q v =
-    let s = bytes_of value_size v in
-    let eight : length s ≡ value_size = length_bytes_of value_size v in
-    let n : number (s ++ []) ≡ v = ap number (append-nil s) ∙ number_bytes_of 7 v in
-    rw (eight, n) (bool_ext _ _ (λ e. found e) (λ e. tested e))
-  where
-    low : Bool
-    low = leb q.low v
+module _ (q : Query) (v : ℕ) where
+  abbrev whole : List ℕ
+  whole = bytes_of value_size v
 
-    high : Bool
-    high = leb v q.high
+  overlaps_whole : overlaps q whole ≡ in_range q v
+  overlaps_whole =
+      let eight : length whole ≡ value_size = length_bytes_of value_size v in
+      let n : number whole ≡ v = number_bytes_of 7 v in
+      let low : lowest whole ≡ v = lowest_is whole ∙ rw (eight, n) (omega arith) in
+      let high : highest whole ≡ v = let h : highest whole + 1 ≡ v * 1 + 1 = highest_is whole ∙ rw (eight, n) in omega arith in
+      bool_ext _ _
+      (λ e. let o = overlap_bounds q whole e in in_bounds q v (omega (arith, o.high)) (omega (arith, o.low)))
+      (λ e. let r = within q v e in
+      bounds_overlap q whole (record { some = omega (arith, r.0, r.1); short = omega arith; low = omega (arith, r.1); high = omega (arith, r.0) }))
 
-    range : Bool
-    range = leb q.low q.high
-
-    found : is_match (cond (range && (high && low)) Match Mismatch) ≡ true → low && high ≡ true
-    found e = go range high low e
-      where
-        go : (a b c : Bool) → is_match (cond (a && (b && c)) Match Mismatch) ≡ true → c && b ≡ true
-        go true true true e = refl
-        go true true false e = not_both e refl
-        go true false c e = not_both e refl
-        go false b c e = not_both e refl
-
-    tested : low && high ≡ true → is_match (cond (range && (high && low)) Match Mismatch) ≡ true
-    tested e =
-        let a = and_left low high e in
-        let b = and_right low high e in
-        let r : range ≡ true = le-leb q.low q.high (between (leb-true q.low v a) (leb-true v q.high b)) in
-        rw (r, a, b)
-      where
-        between : q.low ≤ v → v ≤ q.high → q.low ≤ q.high
-        between h k = omega arith
+  value_whole : is_match (value_reach q whole) ≡ in_range q v
+  unfolding value_reach
+  value_whole = rw (overlaps_whole, length_bytes_of value_size v) (match_when (in_range q v))
 
 path_whole : (pattern path : List ℕ) → is_fine (path_form path) ≡ true → is_match (reach_of pattern (path ++ (end_byte ∷ []))) ≡ matches pattern path
-path_whole pattern path f = ap is_match (reach_path pattern path f) ∙ go (matches pattern path)
-  where
-    go : (b : Bool) → is_match (cond b Match Mismatch) ≡ b
-    go true = refl
-    go false = refl
+path_whole pattern path f = ap is_match (reach_path pattern path f) ∙ match_when (matches pattern path)
 
 -- THE KEY OF AN ENTRY MATCHES AS THE ENTRY DOES
 pub wants_entry : (q : Query) (e : Entry) → is_fine (path_form e.path) ≡ true → wants q (entry_key e) ≡ matches_entry q e
 unfolding wants matches_entry entry_key
-wants_entry q e f = rw (value_whole q e.value, path_whole q.pattern e.path f) (swap (in_range q e.value) (matches q.pattern e.path))
-  where
-    swap : (a b : Bool) → a && b ≡ b && a
-    swap true true = refl
-    swap true false = refl
-    swap false true = refl
-    swap false false = refl
+wants_entry q e f = rw (value_whole q e.value, path_whole q.pattern e.path f) (and_comm (in_range q e.value) (matches q.pattern e.path))

@@ -2,7 +2,7 @@
 use Prim.Native.Nat.{ℕ, ◌+◌, ◌≤◌}
 use mathlib.Core.Path.{◌≡◌, refl, sym, ap, ◌∙◌}
 use mathlib.Core.Logic.{◌↔◌}
-use mathlib.Core.Bool.{Bool, true, false, cond, ◌&&◌}
+use mathlib.Core.Bool.{Bool, true, cond, ◌&&◌, and-true}
 use mathlib.Core.List.{List, [], ◌∷◌, map}
 use native.Mathlib.Omega.{arith}
 use lib.ListN.{length, drop}
@@ -32,6 +32,12 @@ known_before : (k s : Strings) → Prefixes k s → known s ≡ true → known k
 known_before k s h e =
     tested_left byte (at 0 k) (drop (length (at 0 k)) (at 0 s)) (ap (all byte) (drop_prefix (at 0 k) (at 0 s) (prefixes_at 0 k s h)) ∙ e)
 
+known_join : (k s : Strings) → known (join k s) ≡ true → known k ≡ true
+known_join k s = known_before k (join k s) (prefixes_join k s)
+
+known_branch : (d : ℕ) (k s : Strings) → known (join k s) ≡ true → known (branch d k s) ≡ true
+known_branch d k s = known_before (branch d k s) (join k s) (branch_join d k s)
+
 -- .. at every node of tries
 Known : Strings → Forest → Type 0
 Known k none = Unit {0}
@@ -41,13 +47,13 @@ Known k (inner d s children more) = (known (join k s) ≡ true) × Known (join k
 known_first : (k : Strings) (f : Forest) → 1 ≤ length (tops f) → Known k f → known k ≡ true
 unfolding tops Known
 known_first k none l h = absurd (omega arith)
-known_first k (leaf s ts more) l h = known_before k (join k s) (prefixes_join k s) h.0
-known_first k (inner d s children more) l h = known_before k (join k s) (prefixes_join k s) h.0
+known_first k (leaf s ts more) l h = known_join k s h.0
+known_first k (inner d s children more) l h = known_join k s h.0
 
 known_suffix : (k : Strings) (ts : List Key) → 1 ≤ length ts → All Valued (map (under k) ts) → known k ≡ true
 unfolding under
 known_suffix k [] l a = absurd (omega arith)
-known_suffix k (t ∷ ts) l a = known_before k (join k t.strings) (prefixes_join k t.strings) (all_head a)
+known_suffix k (t ∷ ts) l a = known_join k t.strings (all_head a)
 
 known_all : (n : ℕ) (above : Above) (k : Strings) (f : Forest) → Sound n above f → All Valued (keys k f) → Known k f
 unfolding Sound keys Known
@@ -67,7 +73,7 @@ KnownAt (child l) = known l ≡ true
 
 known_at : (above : Above) (k s : Strings) → known (join k s) ≡ true → KnownAt (node above k s)
 known_at root k s e = tt
-known_at (below d) k s e = known_before (branch d k s) (join k s) (branch_join d k s) e
+known_at (below d) k s e = known_branch d k s e
 
 known_nodes : (above : Above) (k : Strings) (f : Forest) → Known k f → All KnownAt (nodes_in above k f)
 unfolding nodes_in Known
@@ -81,7 +87,7 @@ module _ (reach reach' : Strings → Bool) (agree : (k : Strings) → known k �
   enters_agree : (above : Above) (k s : Strings) → known (join k s) ≡ true → enters reach above k s ≡ enters reach' above k s
   unfolding enters
   enters_agree root k s e = refl
-  enters_agree (below d) k s e = agree (branch d k s) (known_before (branch d k s) (join k s) (branch_join d k s) e)
+  enters_agree (below d) k s e = agree (branch d k s) (known_branch d k s e)
 
   entered_agree : (above : Above) (k : Strings) (f : Forest) → Known k f → nodes_entered reach above k f ≡ nodes_entered reach' above k f
   unfolding nodes_entered Known
@@ -119,11 +125,7 @@ entered_exactly q n above k f s a =
     both l = reaches q l && known l
 
     agree : (l : Strings) → known l ≡ true → reaches q l ≡ both l
-    agree l e = go (reaches q l) (known l) e
-      where
-        go : (x y : Bool) → y ≡ true → x ≡ x && y
-        go true y e = sym e
-        go false y e = refl
+    agree l e = rw e (sym (and-true (reaches q l)))
 
     down : (l m : Strings) → all_begin l m ≡ true → both m ≡ true → both l ≡ true
     down l m g e =

@@ -1,6 +1,6 @@
 -- What a search of a trie finds: of tries whose values are bytes, exactly the keys that match. Assumes nothing.
 use mathlib.Core.Path.{◌≡◌, refl, sym, ap, ap₂, ◌∙◌}
-use mathlib.Core.Bool.{Bool, true, false, cond, ◌&&◌}
+use mathlib.Core.Bool.{Bool, true, cond, ◌&&◌, and-true}
 use mathlib.Core.List.{List, [], ◌++◌, map}
 use Rattle.buffer.specs.Lists.{All, all, pick}
 use Rattle.buffer.specs.Numbers.{byte}
@@ -42,8 +42,4 @@ found_keys q above k f a =
     both x = wants q x && all byte (at 0 x.strings)
 
     agree : (x : Key) → Valued x → wants q x ≡ both x
-    agree x v = go (wants q x) (all byte (at 0 x.strings)) v
-      where
-        go : (a b : Bool) → b ≡ true → a ≡ a && b
-        go true b e = sym e
-        go false b e = refl
+    agree x v = rw v (sym (and-true (wants q x)))

@@ -4,10 +4,9 @@ use mathlib.Core.Bool.{true}
 use Prim.Native.Nat.{ℕ, zero, suc, ◌+◌, ◌-◌, ◌*◌, ◌≤◌}
 use mathlib.Core.List.{List, [], ◌∷◌, ◌++◌, append_assoc, map}
 use native.Mathlib.Omega.{arith}
-use native.Mathlib.Numerals.{add-one}
 use borrow.Author.Tests.{le-leb}
 use lib.ListN.{length, take, drop, set, get_or, replicate, length-append, length-replicate, replicate-append-replicate}
-use lib.Seq.{drop_at, get_or_at}
+use lib.Seq.{drop_at, get_or_at, take-append-add}
 use Rattle.buffer.specs.Lists.{all, flat, padded}
 use Rattle.buffer.specs.Splice.{splice, region}
 use Rattle.buffer.specs.Numbers.{bytes_of}
@@ -126,18 +125,18 @@ records_slots = records_side_by_side slot slot_size length_slot
 pub length_slots : (es : List Entry) → all fits_row es ≡ true → length (flat (map slot es)) ≡ length es * slot_size
 length_slots = length_side_by_side slot slot_size length_slot
 
--- behind a path, its first zero is its end byte
-ended : (p : List ℕ) (m : ℕ) (g : List ℕ) → take (suc (length p)) (p ++ (replicate m 0 ++ (0 ∷ g))) ≡ p ++ (0 ∷ [])
-ended [] zero g = refl
-ended [] (suc m) g = refl
-ended (b ∷ p) m g = ap (◌∷◌ b) (ended p m g)
+-- the first of zeros and of what stands behind them
+first_zero : (m : ℕ) (g : List ℕ) → take 1 (replicate m 0 ++ (0 ∷ g)) ≡ 0 ∷ []
+first_zero zero g = refl
+first_zero (suc m) g = refl
 
 module _ (e : Entry) (h : fits_row e ≡ true) where
   path_ended : region (slot e) path_at (length e.path + 1) ≡ e.path ++ (0 ∷ [])
   unfolding slot padded
   path_ended =
       let m = path_limit - length e.path in
-      rw (add-one (length e.path), from_path e (fits e h) behind, append_assoc e.path (replicate m 0) behind) (ended e.path m (replicate (slot_size - row_size - 1) 0))
+      rw (from_path e (fits e h) behind, append_assoc e.path (replicate m 0) behind, take-append-add e.path (replicate m 0 ++ behind) 1)
+      (ap (◌++◌ e.path) (first_zero m (replicate (slot_size - row_size - 1) 0)))
 
   pub slot_key_lem : slot_key (slot e) ≡ entry_key e
   unfolding slot_key slot entry_key

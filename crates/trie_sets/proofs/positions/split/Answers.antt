@@ -50,12 +50,6 @@ path_is c =
 pub least_path-requires : goal.least_path-requires
 least_path-requires c = rw (c.as_chunks.ensures.front ∙ chunks_slots c.args.slots.now) c.requires.0
 
-pub common_bytes-value-requires : goal.common_bytes-value-requires
-common_bytes-value-requires c =
-    let b = (goal.at.common_bytes-value-requires c).After-least_path in
-    let r = c.requires in
-    (rw (set b) r.0, omega (arith, law.value_known r.0 (slots_whole c.args.slots.now) r.2 (small b) (least b)), omega arith)
-
 pub common_bytes-path-requires : goal.common_bytes-path-requires
 common_bytes-path-requires c =
     let b = (goal.at.common_bytes-path-requires c).After-least_path in
