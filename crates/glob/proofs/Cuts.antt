@@ -7,7 +7,7 @@ use Prim.Native.Nat.{ℕ, zero, suc, ◌+◌, ◌-◌, ◌<◌, ◌≤◌}
 use native.Mathlib.Decide.{dec_le}
 use native.Mathlib.Nat.{lt_of_not-le}
 use native.Mathlib.Omega.{arith}
-use lib.ListN.{length, take, drop, get_or, drop_of_length-le, length-drop}
+use lib.ListN.{length, take, drop, get_or, length-drop}
 use lib.Seq.{drop-drop, get_or-drop, take_all, drop-length}
 use lib.Dec.{eqb}
 use borrow.Author.Tests.{eq-eqb, ne_eqb, eqb-true}
@@ -20,22 +20,6 @@ use Rattle.glob.specs.declared.fit.Trial.{Trial}
 use Rattle.buffer.proofs.Tests.{and_false, not_both, same?}
 use Rattle.glob.proofs.Parts.{tail_part, no_items, front, back, back_step, back_end, length_back, step}
 use Rattle.glob.proofs.Trials.{fit_wild, fit_one, byte_law, end_law, Tried, tried_on, first_on, first_off, last_only, last_later}
-
--- what stands up to the next `/`, at an index
-slash_here : (s : List ℕ) (c : ℕ) → c ≡ slash → up_to_slash (c ∷ s) ≡ []
-slash_here s c e = rw (eq-eqb c slash e)
-
-no_slash_here : (s : List ℕ) (c : ℕ) → (c ≡ slash → ⊥) → up_to_slash (c ∷ s) ≡ c ∷ up_to_slash s
-no_slash_here s c e = rw (ne_eqb c slash e)
-
-pub up_stop : (s : List ℕ) (i : ℕ) → i < length s → get_or s i 0 ≡ slash → length (up_to_slash (drop i s)) ≡ 0
-up_stop s i l e = ap length (ap up_to_slash (step s i l) ∙ slash_here (drop (i + 1) s) (get_or s i 0) e)
-
-pub up_more : (s : List ℕ) (i : ℕ) → i < length s → (get_or s i 0 ≡ slash → ⊥) → length (up_to_slash (drop i s)) ≡ suc (length (up_to_slash (drop (i + 1) s)))
-up_more s i l e = ap length (ap up_to_slash (step s i l) ∙ no_slash_here (drop (i + 1) s) (get_or s i 0) e)
-
-pub up_end : (s : List ℕ) (i : ℕ) → length s ≤ i → length (up_to_slash (drop i s)) ≡ 0
-up_end s i l = ap (λ (t : List ℕ). length (up_to_slash t)) (drop_of_length-le s l)
 
 -- in what stands up to the first `/` there is none
 up_none : (t : List ℕ) (j : ℕ) → j < length (up_to_slash t) → get_or t j 0 ≡ slash → ⊥

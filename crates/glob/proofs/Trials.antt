@@ -21,7 +21,7 @@ use Rattle.glob.specs.Inner.{Says, is_fit, Alike, Skipped, OffLabel}
 use Rattle.glob.specs.declared.fit.Trial.{Trial}
 use Rattle.glob.specs.declared.fit.Trial.TheVariants.{Fits, Fails, Never}
 use Rattle.buffer.proofs.Tests.{not_both, and_false, or_false, or_left, or_left_false, or_right_false}
-use Rattle.glob.proofs.Parts.{tail_part, rest, split, back, back_all, back_step, back_back, back_end, no_items}
+use Rattle.glob.proofs.Parts.{tail_part, rest, split, back, back_step, back_back, back_end, no_items}
 
 -- where k never holds, it does not hold now
 never_now : {B : Type 0} (k : List B → Bool) (s : List B) → after_some k s ≡ false → k s ≡ false
@@ -141,15 +141,6 @@ module _ (p s : List ℕ) (f : length p ≡ 0 → ⊥) (w : get_or p 0 0 ≡ sta
 pub tried_step : (p s u : List ℕ) (i : ℕ) → i ≤ length s → OffLabel p s i → Tried (fits_label p) (length s) i (back s i) u → Tried (fits_label p) (length s) (i + 1) (back s (i + 1)) u
 tried_step p s u i l e y =
     tried_on (fits_label p) (length s) i (i + 1) (get_or s i 0) (back s i) (back s (i + 1)) u l (λ m. back_step s i (omega arith)) (λ m. back_end s i (omega arith)) e y
-
--- nothing is passed over
-pub alike_none : (p s : List ℕ) → Alike p s 0
-alike_none p s =
-    record {
-      in_pattern = omega arith;
-      in_label = omega arith;
-      passes = λ t h. subst (λ (l : List ℕ). Says (fits_label p) l t) (back_all s) (subst (λ (q : List ℕ). Says (fits_label q) (back s 0) t) (back_all p) h);
-    }
 
 -- the next byte of both is the same, and no `*`
 pub alike_on : (p s : List ℕ) (i : ℕ) → i < length p → i < length s → (get_or p i 0 ≡ star → ⊥) → get_or p i 0 ≡ get_or s i 0 → Alike p s i → Alike p s (i + 1)
