@@ -2,13 +2,13 @@
 -- Assumes nothing.
 use Prim.Native.Nat.{ℕ, zero, suc, ◌+◌, ◌*◌, ◌-◌, ◌^◌, ◌≤◌, ◌<◌}
 use mathlib.Core.Path.{◌≡◌, refl, sym, ap, ◌∙◌}
-use mathlib.Core.Bool.{Bool, true, false, cond, ◌&&◌, and_comm}
+use mathlib.Core.Bool.{Bool, true, false, cond, and_comm}
 use mathlib.Core.List.{List, [], ◌∷◌, ◌++◌, append_assoc}
 use native.Mathlib.Omega.{arith}
+use Rattle.std.proofs.lemmas.Bool.Decides.{nat_tests}
 use native.Mathlib.Nat.{zero-mul, pow-suc, one-le-pow, zero-lt-suc}
 use lib.ListN.{length, drop, replicate, length-append, length-replicate}
-use lib.Dec.{eqb, leb}
-use borrow.Author.Tests.{leb-true, le-leb}
+use lib.Dec.{eqb}
 use Rattle.buffer.specs.Lists.{all}
 use Rattle.buffer.specs.Numbers.{bytes_of, number, byte}
 use Rattle.buffer.proofs.Tests.{and_left, and_right, and_both, bool_ext, not_both}
@@ -65,11 +65,11 @@ number_few (suc j) x h = number_bytes_of j x
 
 within : (q : Query) (v : ℕ) → in_range q v ≡ true → (q.low ≤ v) × (v ≤ q.high)
 unfolding in_range
-within q v e = (leb-true q.low v (and_left (leb q.low v) (leb v q.high) e), leb-true v q.high (and_right (leb q.low v) (leb v q.high) e))
+within q v e = (grind (arith, nat_tests), grind (arith, nat_tests))
 
 in_bounds : (q : Query) (v : ℕ) → q.low ≤ v → v ≤ q.high → in_range q v ≡ true
 unfolding in_range
-in_bounds q v l h = and_both (le-leb q.low v l) (le-leb v q.high h)
+in_bounds q v l h = grind (arith, nat_tests)
 
 record Overlap (q : Query) (known : List ℕ) : Type 0 where
   some : q.low ≤ q.high
@@ -77,26 +77,14 @@ record Overlap (q : Query) (known : List ℕ) : Type 0 where
   low : lowest known ≤ q.high
   high : q.low ≤ highest known
 
-module _ (q : Query) (known : List ℕ) where
-  overlap_bounds : overlaps q known ≡ true → Overlap q known
-  unfolding overlaps
-  overlap_bounds e =
-      let range = leb q.low q.high in
-      let short = leb (length known) value_size in
-      let lo = leb (lowest known) q.high in
-      let hi = leb q.low (highest known) in
-      let e₁ = and_right range (short && (lo && hi)) e in
-      let e₂ = and_right short (lo && hi) e₁ in
-      record {
-        some = leb-true _ _ (and_left range (short && (lo && hi)) e);
-        short = leb-true _ _ (and_left short (lo && hi) e₁);
-        low = leb-true _ _ (and_left lo hi e₂);
-        high = leb-true _ _ (and_right lo hi e₂);
-      }
+overlap_bounds : (q : Query) (known : List ℕ) → overlaps q known ≡ true → Overlap q known
+unfolding overlaps
+overlap_bounds q known e =
+    record { some = grind (arith, nat_tests); short = grind (arith, nat_tests); low = grind (arith, nat_tests); high = grind (arith, nat_tests) }
 
-  bounds_overlap : Overlap q known → overlaps q known ≡ true
-  unfolding overlaps
-  bounds_overlap o = and_both (le-leb _ _ o.some) (and_both (le-leb _ _ o.short) (and_both (le-leb _ _ o.low) (le-leb _ _ o.high)))
+bounds_overlap : (q : Query) (known : List ℕ) → Overlap q known → overlaps q known ≡ true
+unfolding overlaps
+bounds_overlap q known o = grind (arith, nat_tests, o.some, o.short, o.low, o.high)
 
 lowest_is : (known : List ℕ) → lowest known ≡ number known * 256 ^ (value_size - length known)
 unfolding lowest

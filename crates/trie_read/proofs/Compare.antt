@@ -12,7 +12,6 @@ use lib.ListN.{length, get_or, take, drop, drop_of_length-le}
 use lib.Seq.{drop-cons}
 use lib.Dec.{eqb}
 use lib.Pointwise.{pointwise}
-use Rattle.buffer.specs.Lists.{same}
 use borrow.Author.Tests.{eq-eqb, ne_eqb}
 use Rattle.buffer.proofs.Tests.{and_right}
 use Rattle.trie_theory.specs.Strings.{begins, common, first}
@@ -25,14 +24,7 @@ begins_length [] s e = omega arith
 begins_length (a ∷ p) [] e = absurd (let z : ◌≡◌ {A = Bool} false true = e in let y : ◌≡◌ {A = ℕ} 0 1 = cc in omega arith)
 begins_length (a ∷ p) (b ∷ s) e = let h = begins_length p s (and_right (eqb a b) (begins p s) e) in omega arith
 
--- what the library's tests of slices say
-pub pointwise_same : (x y : List ℕ) → pointwise eqb x y ≡ same eqb x y
-unfolding same
-pointwise_same [] [] = refl
-pointwise_same [] (b ∷ y) = refl
-pointwise_same (a ∷ x) [] = refl
-pointwise_same (a ∷ x) (b ∷ y) = ap (λ (t : Bool). eqb a b && t) (pointwise_same x y)
-
+-- what the library's test of a beginning says
 pub pointwise_begins : (p s : List ℕ) → pointwise eqb p (take (length p) s) ≡ begins p s
 unfolding begins
 pointwise_begins [] s = refl
