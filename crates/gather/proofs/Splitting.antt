@@ -26,13 +26,13 @@ use Rattle.trie_read.specs.Kinds.{byte_of_kind, number_of}
 use Rattle.trie_read.specs.Heads.{Head, head_of, head_in}
 use Rattle.trie_read.specs.Suffixes.{suffixes_bytes, tail_of, tail_in}
 use Rattle.trie_read.specs.declared.head.Node.{Node}
-use Rattle.trie_read.specs.declared.suffixes.Suffix.{Suffix}
+use Rattle.trie_read.specs.declared.suffix.Suffix.{Suffix}
 use Rattle.trie_read.specs.declared.kind.Dimension.{Dimension}
 use Rattle.trie_read.specs.declared.kind.Kind.{Kind}
 use Rattle.trie_read.specs.declared.kind.Kind.TheVariants.{Leaf, Inner}
 use Rattle.trie_read.proofs.KindBytes.{byte_back}
 use Rattle.trie_read.proofs.Node.{leaf_view, inner_view, head_end, head_is, kind?}
-use Rattle.trie_read.proofs.Suffix.{tail_end, tail_at}
+use Rattle.trie_read.proofs.SuffixParts.{tail_end, tail_at}
 pub use Rattle.trie_read.proofs.Among.{seen_key}
 use Rattle.gather.specs.KeySlots.{ended_limit, has_slot, has_room, known, suffix_key}
 use Rattle.gather.specs.Walks.{SuffixKeys}

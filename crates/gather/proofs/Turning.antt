@@ -22,7 +22,7 @@ use Rattle.trie_read.specs.Kinds.{byte_of_kind}
 use Rattle.trie_read.specs.Heads.{head_of, head_in}
 use Rattle.trie_read.specs.Suffixes.{suffixes_bytes, tail_of, tail_in}
 use Rattle.trie_read.specs.declared.head.Node.{Node}
-use Rattle.trie_read.specs.declared.suffixes.Suffix.{Suffix}
+use Rattle.trie_read.specs.declared.suffix.Suffix.{Suffix}
 use Rattle.trie_read.specs.declared.kind.Dimension.{Dimension}
 use Rattle.trie_read.specs.declared.kind.Kind.{Kind}
 use Rattle.trie_read.specs.declared.kind.Kind.TheVariants.{Leaf, Inner}

@@ -1,7 +1,7 @@
 // The key buffer of a walk: a slot in which the bytes known on the way down stand where a slot has them, those of the value from its
 // beginning on, those of the path from PATH_AT on. What deeper nodes write stands behind, so that what is known stays.
 ghost use Rattle.std.specs.Prelude.{◌≡◌, cond, ◌+◌, ◌≤◌, length};
-ghost use Rattle.rows.specs.Sizes.{value_size, reference_size};
+ghost use Rattle.rows.specs.Sizes.{value_size};
 ghost use Rattle.gather.specs.KeySlots.{ended_limit, has_slot, key_slot, suffix_key};
 ghost use Rattle.gather.specs.Walks.{Entered, known_strings};
 
@@ -11,14 +11,14 @@ use entries::SLOT_SIZE;
 use matcher::bytes::PATH_LIMIT;
 use rows::sizes::{LENGTH_AT, PATH_AT, REFERENCE_AT, VALUE_SIZE};
 use trie_read::head::Node;
-use trie_read::suffixes::Suffix;
+use trie_read::suffix::Suffix;
 
 // A path and its end byte.
 pub const ENDED_LIMIT: usize = PATH_LIMIT + 1;
 
 // Writes what a suffix adds, and what is known stays: the buffer is then the slot of the key.
 fn fill(key: &mut [u8; SLOT_SIZE], known: Known, suffix: &Suffix<'_>)
-    requires value_len { (known.value + length suffix.now.value.now ≡ value_size) × (length suffix.now.reference.now ≡ reference_size) }
+    requires value_len { known.value + length suffix.now.value.now ≡ value_size }
     requires path_len { (1 ≤ known.path + length suffix.now.path.now) × (known.path + length suffix.now.path.now ≤ ended_limit) }
     ensures { key.new ≡ key_slot (suffix_key (known_strings known key.old) suffix.now.value.now suffix.now.path.now suffix.now.reference.now) }
 {
@@ -33,7 +33,6 @@ fn fill(key: &mut [u8; SLOT_SIZE], known: Known, suffix: &Suffix<'_>)
 
 // Makes the slot of a key, of which a suffix has the last bytes. A key that has no slot is passed over.
 pub fn compose(key: &mut [u8; SLOT_SIZE], known: Known, suffix: &Suffix<'_>) -> bool
-    requires { length suffix.now.reference.now ≡ reference_size }
     ensures value { result ≡ has_slot (suffix_key (known_strings known key.old) suffix.now.value.now suffix.now.path.now suffix.now.reference.now) }
     ensures key_after { key.new ≡ cond result (key_slot (suffix_key (known_strings known key.old) suffix.now.value.now suffix.now.path.now suffix.now.reference.now)) key.old }
 {

@@ -24,8 +24,8 @@ use Rattle.entries.specs.Slots.{slot_size}
 use Rattle.entries.specs.Query.{Query, value_reach, is_match, wants}
 use Rattle.trie_read.specs.Shape.{Fixed}
 use Rattle.trie_read.specs.Suffixes.{suffixes_bytes, tail_of, tail_in}
-use Rattle.trie_read.specs.declared.suffixes.Suffix.{Suffix}
-use Rattle.trie_read.proofs.Suffix.{Seen, tail_end, tail_at}
+use Rattle.trie_read.specs.declared.suffix.Suffix.{Suffix}
+use Rattle.trie_read.proofs.SuffixParts.{Seen, tail_end, tail_at}
 use Rattle.gather.specs.KeySlots.{has_slot, key_slot, known, suffix_key}
 use Rattle.gather.specs.Walks.{Put, known_strings}
 use Rattle.gather.specs.Outputs.{RowPut}

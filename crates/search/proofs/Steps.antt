@@ -28,7 +28,7 @@ use Rattle.gather.specs.declared.known.Known.{Known}
 use Rattle.gather.proofs.Filling.{known_same, unfilled, slot_kept}
 use Rattle.trie_read.specs.Shape.{above_of}
 use Rattle.trie_read.specs.Suffixes.{SuffixStands}
-use Rattle.trie_read.specs.declared.suffixes.Suffix.{Suffix}
+use Rattle.trie_read.specs.declared.suffix.Suffix.{Suffix}
 use Rattle.trie_read.specs.declared.kind.Dimension.{Dimension}
 use Rattle.trie_read.specs.declared.kind.Dimension.TheVariants.{Value, Path, Other}
 use Rattle.buffer.proofs.Tests.{not_both, and_both, and_false}

@@ -6,7 +6,7 @@ ghost use Rattle.buffer.specs.Numbers.{number};
 ghost use Rattle.buffer.specs.Splice.{region, splice};
 ghost use Rattle.matcher.specs.Continued.{FirstBytes};
 ghost use Rattle.matcher.specs.Reach.{reach_of, goes_on};
-ghost use Rattle.rows.specs.Sizes.{value_size, reference_size, path_at};
+ghost use Rattle.rows.specs.Sizes.{value_size, path_at};
 ghost use Rattle.trie_theory.specs.Search.{enters};
 ghost use Rattle.trie_read.specs.Shape.{above_of};
 ghost use Rattle.entries.specs.Query.{value_reach, reaches, is_match, asked};
@@ -25,7 +25,7 @@ use matcher::reach::{Answer, one_leads, reach_from, ruled_out};
 use rows::sizes::{PATH_AT, VALUE_SIZE};
 use trie_read::head::Node;
 use trie_read::kind::Dimension;
-use trie_read::suffixes::Suffix;
+use trie_read::suffix::Suffix;
 use value_range::value::{Span, span_behind, value_reach, value_told, value_with};
 
 // The answer of both dimensions together.
@@ -217,7 +217,7 @@ pub(crate) fn take_key(
     x: u64,
     span: Span,
 ) -> bool
-    requires { (length suffix.now.reference.now ≡ reference_size) × (known.value + length suffix.now.value.now ≡ value_size) × (x ≡ number suffix.now.value.now) }
+    requires { (known.value + length suffix.now.value.now ≡ value_size) × (x ≡ number suffix.now.value.now) }
     ensures { Spans (asks q.now) (take known.value key.old) (value_size - known.value) span.from span.to → Taken (asks q.now) known suffix.now.value.now suffix.now.path.now suffix.now.reference.now key.old key.new result }
 {
     if known.path + suffix.path.len() > ENDED_LIMIT {

@@ -13,7 +13,7 @@ use Rattle.std.specs.Prelude.{Some, None}
 use Rattle.trie_read.specs.Shape.{Fixed, key_of}
 use Rattle.trie_read.specs.Suffixes.{suffixes_bytes, Tail, tail_of}
 use Rattle.trie_read.proofs.Node.{two}
-use Rattle.trie_read.proofs.Suffix.{Seen, tail_end, tail_at}
+use Rattle.trie_read.proofs.SuffixParts.{Seen, tail_end, tail_at}
 
 module _ (v p r v' p' r' : List ℕ) where
   pub same_all : same eqb v v' ≡ true → same eqb p p' ≡ true → same_key (key_of v p r) (key_of v' p' r') ≡ same eqb r r'

@@ -6,7 +6,7 @@ use Rattle.trie_theory.specs.Strings.{at}
 use Rattle.trie_theory.specs.Encode.{suffix_bytes}
 use Rattle.buffer.specs.Sizes.{reference_size}
 use Rattle.trie_read.specs.Sizes.{suffix_size}
-use Rattle.trie_read.specs.declared.suffixes.Suffix.{Suffix}
+use Rattle.trie_read.specs.declared.suffix.Suffix.{Suffix}
 use Rattle.trie_read.specs.declared.head.Malformed.{Malformed}
 
 abbrev pub suffixes_bytes : List Key → List ℕ

@@ -10,4 +10,5 @@ pub mod node_place;
 pub mod place;
 pub mod sizes;
 pub mod strings;
+pub mod suffix;
 pub mod suffixes;

@@ -2,30 +2,13 @@
 ghost use Rattle.std.specs.Prelude.{◌≡◌, List, Ok, IfSome, option_map};
 ghost use Rattle.trie_theory.specs.Forest.{Key};
 ghost use Rattle.buffer.specs.Lists.{All};
-ghost use Rattle.trie_theory.specs.Lookup.{among, same_key};
+ghost use Rattle.trie_theory.specs.Lookup.{among};
 ghost use Rattle.trie_read.specs.Shape.{Fixed, key_of};
 ghost use Rattle.trie_read.specs.Suffixes.{suffixes_bytes, tail_of, tail_in, tail_told, WithinBytes, SuffixStands};
 
 use crate::head::Malformed;
 use crate::sizes::SUFFIX_SIZE;
-
-// A suffix where it is read: what is left of its key, and the bytes of the later suffixes.
-#[derive(Clone, Copy, Debug)]
-pub struct Suffix<'a> {
-    pub value: &'a [u8],
-    pub path: &'a [u8],
-    pub reference: &'a [u8],
-    pub rest: &'a [u8],
-}
-
-impl Suffix<'_> {
-    // Is it this key?
-    fn is(&self, value: &[u8], path: &[u8], reference: &[u8]) -> bool
-        ensures { result ≡ same_key (key_of value.now path.now reference.now) (key_of self.now.value.now self.now.path.now self.now.reference.now) }
-    {
-        value == self.value && path == self.path && reference == self.reference
-    }
-}
+use crate::suffix::Suffix;
 
 // The first of suffixes; `Ok(None)` where there are no bytes.
 #[inline]

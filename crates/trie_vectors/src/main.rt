@@ -19,7 +19,8 @@ use std::io;
 use trie_read::head::{Malformed, Node, read_head};
 use trie_read::kind::{Dimension, Kind};
 use trie_read::sizes::{HEAD_SIZE, LEAF_SIZE};
-use trie_read::suffixes::{Suffix, read_suffix};
+use trie_read::suffix::Suffix;
+use trie_read::suffixes::read_suffix;
 use trie_write::key::Key;
 
 const INPUT_SIZE: usize = 262144;

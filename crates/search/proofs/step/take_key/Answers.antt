@@ -30,7 +30,7 @@ returns-then-not-is_match c =
     λ l.
     let q = asks a.q.now in
     let long = length-take-le a.known.value a.key.now (omega (arith, a.known.value_fits)) in
-    let value = c.value_told-value.ensures q (take a.known.value a.key.now) x.value.now c.requires.2 (omega (arith, c.requires.1, long)) (of_rest a.known.value (length x.value.now) (omega (arith, c.requires.1)) l) in
+    let value = c.value_told-value.ensures q (take a.known.value a.key.now) x.value.now c.requires.1 (omega (arith, c.requires.0, long)) (of_rest a.known.value (length x.value.now) (omega (arith, c.requires.0)) l) in
     taken_out q a.known x.value.now x.path.now x.reference.now a.key.now (omega arith) _
     (known_front a.known.value a.known.path a.key.now _ (omega arith) (omega arith) a.known.value_fits m.ensures.key_unchanged)
     (λ f. wants_told q a.known x.value.now x.path.now x.reference.now a.key.now (omega arith) _ _ _ value (m.ensures.value f) c.is_match.ensures ∙ c.if-not-is_match.true)
@@ -43,7 +43,7 @@ returns c =
     λ l.
     let q = asks a.q.now in
     let long = length-take-le a.known.value a.key.now (omega (arith, a.known.value_fits)) in
-    let value = c.value_told-value.ensures q (take a.known.value a.key.now) x.value.now c.requires.2 (omega (arith, c.requires.1, long)) (of_rest a.known.value (length x.value.now) (omega (arith, c.requires.1)) l) in
+    let value = c.value_told-value.ensures q (take a.known.value a.key.now) x.value.now c.requires.1 (omega (arith, c.requires.0, long)) (of_rest a.known.value (length x.value.now) (omega (arith, c.requires.0)) l) in
     taken_slot q a.known x.value.now x.path.now x.reference.now a.key.now (omega arith) _
     (known_front a.known.value a.known.path a.key.now _ (omega arith) (omega arith) a.known.value_fits m.ensures.key_unchanged) _ _
     (λ f. wants_told q a.known x.value.now x.path.now x.reference.now a.key.now (omega arith) _ _ _ value (m.ensures.value f) c.is_match.ensures ∙ c.if-not-is_match.false)

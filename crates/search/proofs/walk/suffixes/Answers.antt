@@ -41,7 +41,7 @@ returns-then-rest-x c =
 pub take_key-requires : goal.take_key-requires
 take_key-requires c =
     let w = c.in-Some.ensures.within in
-    (w.reference_long, c.if-known-n-eq-VALUE_SIZE.true, rw (tail_part 22 c.loop-suffix.t.now, tail_value w) at c.first_number-x.ensures)
+    (c.if-known-n-eq-VALUE_SIZE.true, rw (tail_part 22 c.loop-suffix.t.now, tail_value w) at c.first_number-x.ensures)
 
 pub loop-suffix-preserved : goal.loop-suffix-preserved
 loop-suffix-preserved c =

@@ -5,7 +5,7 @@ use mathlib.Core.Path.{sym, ap, ◌∙◌}
 use lib.ListN.{length, take, length-take}
 use Rattle.std.specs.Prelude.{Ok}
 use Rattle.std.proofs.Common.{eqb-true, false-eqb}
-use Rattle.trie_read.proofs.Suffix.{read_end, read_long, read_at, suffix_parts_are}
+use Rattle.trie_read.proofs.SuffixParts.{read_end, read_long, read_at, suffix_parts_are}
 use Rattle.trie_read.proofs.Stretch.{length_part}
 use Rattle.trie_read.proofs.suffixes.read_suffix.Goals as goal
 

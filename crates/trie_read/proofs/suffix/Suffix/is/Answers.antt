@@ -2,8 +2,8 @@
 use mathlib.Core.Path.{sym, ◌∙◌}
 use Rattle.rows.proofs.Compare.{same_pointwise}
 use Rattle.trie_read.proofs.Among.{same_all, same_value, same_path}
-use Rattle.trie_read.proofs.suffixes.Suffix.is.Goals.{then-eq, else-eq}
-use Rattle.trie_read.proofs.suffixes.Suffix.is.Goals as goal
+use Rattle.trie_read.proofs.suffix.Suffix.is.Goals.{then-eq, else-eq}
+use Rattle.trie_read.proofs.suffix.Suffix.is.Goals as goal
 
 pub returns-then-eq-2 : goal.returns-then-eq-2
 returns-then-eq-2 c =
