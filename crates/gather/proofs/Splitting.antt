@@ -22,7 +22,7 @@ use Rattle.trie_theory.specs.Strings.{at}
 use Rattle.trie_theory.specs.Size.{height}
 use Rattle.trie_theory.specs.Encode.{Regular, encode}
 use Rattle.trie_read.specs.Shape.{Fixed}
-use Rattle.trie_read.specs.Kinds.{byte_of_kind, number_of}
+use Rattle.trie_read.specs.Kinds.{byte_of_kind, kind_of_byte, number_of}
 use Rattle.trie_read.specs.Heads.{Head, head_of, head_in}
 use Rattle.trie_read.specs.Suffixes.{suffixes_bytes, tail_of, tail_in}
 use Rattle.trie_read.specs.declared.head.Node.{Node}
@@ -154,47 +154,47 @@ node_strings x = x.value.now ∷ x.path.now ∷ []
 -- in two parts: those below the node x, and those behind it
 abbrev pub NodeParts : ℕ → List ℕ → Strings → Node → List Visit → Type 0
 NodeParts n way k x =
-    Two (BodyVisits x.kind (n + 1) (way ++ node_of (join k (node_strings x)) (byte_of_kind x.kind)) (join k (node_strings x)) x.body.now) (TrieVisits n way k x.rest.now)
+    Two (BodyVisits (kind_of_byte x.byte) (n + 1) (way ++ node_of (join k (node_strings x)) (byte_of_kind (kind_of_byte x.byte))) (join k (node_strings x)) x.body.now) (TrieVisits n way k x.rest.now)
 
 module _ {n : ℕ} {way : List ℕ} {k : Strings} {t : List ℕ} {r : Option Node} (is : (f : Forest) → Regular 2 f → t ≡ encode f → option_map head_in r ≡ head_of f) where
   pub below_end : r ≡ None → (vs : List Visit) → TrieVisits n way k t vs → vs ≡ []
   below_end h vs s = s.is ∙ none_below n way k s.tries (head_end s.tries (rw h at (is s.tries s.regular s.bytes)))
 
   module _ (x : Node) (e : r ≡ Some x) where
-    leaf_parts : (vs : List Visit) → TrieVisits n way k t vs → x.kind ≡ Leaf → NodeParts n way k x vs
+    leaf_parts : (vs : List Visit) → TrieVisits n way k t vs → (kind_of_byte x.byte) ≡ Leaf → NodeParts n way k x vs
     leaf_parts vs s z =
         let strings = node_strings x in
         let w = leaf_view (head_in x) s.tries s.regular (node_read r s.tries x (is s.tries s.regular s.bytes) e) z in
         let own = pick has_slot (map (under (join k strings)) w.suffixes) in
-        let at_leaf : SuffixVisits (n + 1) (way ++ node_of (join k strings) (byte_of_kind x.kind)) (join k strings) x.body.now (map (visit (n + 1) (way ++ node_of (join k strings) (byte_of_kind x.kind))) own) =
+        let at_leaf : SuffixVisits (n + 1) (way ++ node_of (join k strings) (byte_of_kind (kind_of_byte x.byte))) (join k strings) x.body.now (map (visit (n + 1) (way ++ node_of (join k strings) (byte_of_kind (kind_of_byte x.byte)))) own) =
         record { keys = own; has = record { suffixes = w.suffixes; fixed = w.fixed; bytes = w.body_is; is = refl }; is = refl } in
         record {
-          first = map (visit (n + 1) (way ++ node_of (join k strings) (byte_of_kind x.kind))) own;
+          first = map (visit (n + 1) (way ++ node_of (join k strings) (byte_of_kind (kind_of_byte x.byte)))) own;
           second = visits n way k w.more;
-          one = body_leaf x.kind _ _ _ _ _ z at_leaf;
+          one = body_leaf (kind_of_byte x.byte) _ _ _ _ _ z at_leaf;
           other = record { tries = w.more; regular = w.shaped; high = leaf_less n w.strings w.suffixes w.more (rw w.is at s.high); bytes = w.rest_is; is = refl };
-          is = s.is ∙ ap (visits n way k) w.is ∙ ap (λ (l : Strings). visits n way k (leaf l w.suffixes w.more)) (sym w.strings_are) ∙ leaf_below n (byte_of_kind x.kind) way k strings w.suffixes w.more (ap byte_of_kind z);
+          is = s.is ∙ ap (visits n way k) w.is ∙ ap (λ (l : Strings). visits n way k (leaf l w.suffixes w.more)) (sym w.strings_are) ∙ leaf_below n (byte_of_kind (kind_of_byte x.byte)) way k strings w.suffixes w.more (ap byte_of_kind z);
         }
 
-    inner_parts : (vs : List Visit) → TrieVisits n way k t vs → (d : Dimension) → x.kind ≡ Inner d → NodeParts n way k x vs
+    inner_parts : (vs : List Visit) → TrieVisits n way k t vs → (d : Dimension) → (kind_of_byte x.byte) ≡ Inner d → NodeParts n way k x vs
     inner_parts vs s d z =
         let told = node_read r s.tries x (is s.tries s.regular s.bytes) e in
         let strings = node_strings x in
         let w = inner_view (head_in x) s.tries d s.regular told z in
         let h = inner_less n (number_of d) w.strings w.children w.more (rw w.is at s.high) in
-        let kind : byte_of_kind x.kind ≡ suc (number_of d) = kind_told (head_in x) (number_of d) w.strings w.children w.more (told ∙ ap head_of w.is) in
-        let inside : TrieVisits (n + 1) (way ++ node_of (join k strings) (byte_of_kind x.kind)) (join k strings) x.body.now (visits (n + 1) (way ++ node_of (join k strings) (byte_of_kind x.kind)) (join k strings) w.children) =
+        let kind : byte_of_kind (kind_of_byte x.byte) ≡ suc (number_of d) = kind_told (head_in x) (number_of d) w.strings w.children w.more (told ∙ ap head_of w.is) in
+        let inside : TrieVisits (n + 1) (way ++ node_of (join k strings) (byte_of_kind (kind_of_byte x.byte))) (join k strings) x.body.now (visits (n + 1) (way ++ node_of (join k strings) (byte_of_kind (kind_of_byte x.byte))) (join k strings) w.children) =
         record { tries = w.children; regular = w.lower; high = h.0; bytes = w.body_is; is = refl } in
         record {
-          first = visits (n + 1) (way ++ node_of (join k strings) (byte_of_kind x.kind)) (join k strings) w.children;
+          first = visits (n + 1) (way ++ node_of (join k strings) (byte_of_kind (kind_of_byte x.byte))) (join k strings) w.children;
           second = visits n way k w.more;
-          one = body_inner x.kind d _ _ _ _ _ z inside;
+          one = body_inner (kind_of_byte x.byte) d _ _ _ _ _ z inside;
           other = record { tries = w.more; regular = w.shaped; high = h.1; bytes = w.rest_is; is = refl };
-          is = s.is ∙ ap (visits n way k) w.is ∙ ap (λ (l : Strings). visits n way k (inner (number_of d) l w.children w.more)) (sym w.strings_are) ∙ inner_below n (byte_of_kind x.kind) way k strings (number_of d) w.children w.more kind;
+          is = s.is ∙ ap (visits n way k) w.is ∙ ap (λ (l : Strings). visits n way k (inner (number_of d) l w.children w.more)) (sym w.strings_are) ∙ inner_below n (byte_of_kind (kind_of_byte x.byte)) way k strings (number_of d) w.children w.more kind;
         }
 
     pub below_split : (vs : List Visit) → TrieVisits n way k t vs → NodeParts n way k x vs
-    below_split vs s = ⊎_elim (leaf_parts vs s) (λ (z : (d : Dimension) × (x.kind ≡ Inner d)). inner_parts vs s z.0 z.1) (kind? x.kind)
+    below_split vs s = ⊎_elim (leaf_parts vs s) (λ (z : (d : Dimension) × ((kind_of_byte x.byte) ≡ Inner d)). inner_parts vs s z.0 z.1) (kind? (kind_of_byte x.byte))
 
 -- ---- keys
 

@@ -18,7 +18,7 @@ use Rattle.trie_theory.specs.Forest.{Strings, Key, Forest, join}
 use Rattle.trie_theory.specs.Encode.{Regular, encode}
 use Rattle.entries.specs.Slots.{slot_size}
 use Rattle.trie_read.specs.Shape.{Fixed}
-use Rattle.trie_read.specs.Kinds.{byte_of_kind}
+use Rattle.trie_read.specs.Kinds.{byte_of_kind, kind_of_byte}
 use Rattle.trie_read.specs.Heads.{head_of, head_in}
 use Rattle.trie_read.specs.Suffixes.{suffixes_bytes, tail_of, tail_in}
 use Rattle.trie_read.specs.declared.head.Node.{Node}
@@ -148,14 +148,14 @@ module _ {row : Row} {Has : List Visit → Type 0} {x : Below} {way t₀ t k₀ 
 
   module _ (y : Node) (e : r ≡ Some y) (long : length t ≡ 7 + length y.value.now + length y.path.now + length y.body.now + length y.rest.now) {w k₁ w₁ : List ℕ} where
     -- the node is entered, and what is below it is walked
-    pub siblings_in : {z : Below} {o' : Output} {k' : List ℕ} → Descended x y.value.now y.path.now (byte_of_kind y.kind) k w k₁ w₁ (Some z) → take (node_size * x.nodes) w ≡ way
-        → Walked row (BodyVisits y.kind z.nodes (take (node_size * z.nodes) w₁) (known_strings z.known k₁) y.body.now) z y.body.now o o' k₁ k'
+    pub siblings_in : {z : Below} {o' : Output} {k' : List ℕ} → Descended x y.value.now y.path.now (byte_of_kind (kind_of_byte y.byte)) k w k₁ w₁ (Some z) → take (node_size * x.nodes) w ≡ way
+        → Walked row (BodyVisits (kind_of_byte y.byte) z.nodes (take (node_size * z.nodes) w₁) (known_strings z.known k₁) y.body.now) z y.body.now o o' k₁ k'
         → Going row Has (TrieVisits x.nodes way (known_strings x.known k₀) y.rest.now) x t₀ y.rest.now o₀ o' k₀ k'
     siblings_in {z} {o'} {k'} down ways i =
         let n = down.is in
         let below : known_strings z.known k₁ ≡ join (known_strings x.known k₀) (node_strings y) = n.deeper.joins ∙ ap (λ (s : Strings). join s (node_strings y)) l.by.so.kept in
-        let line : take (node_size * z.nodes) w₁ ≡ way ++ node_of (join (known_strings x.known k₀) (node_strings y)) (byte_of_kind y.kind) =
-        n.way ∙ ap₂ (λ (a : List ℕ) (s : Strings). a ++ node_of s (byte_of_kind y.kind)) ways below in
+        let line : take (node_size * z.nodes) w₁ ≡ way ++ node_of (join (known_strings x.known k₀) (node_strings y)) (byte_of_kind (kind_of_byte y.byte)) =
+        n.way ∙ ap₂ (λ (a : List ℕ) (s : Strings). a ++ node_of s (byte_of_kind (kind_of_byte y.byte))) ways below in
         let put = rw (line, below, n.one_more) at i.put in
         let kept : known_strings x.known k' ≡ known_strings x.known k = known_less x.known.value x.known.path z.known.value z.known.path k' k₁ (omega (arith, n.deeper.value_is)) (omega (arith, n.deeper.path_is)) i.put.kept ∙ down.kept in
         record {
@@ -166,7 +166,7 @@ module _ {row : Row} {Has : List Visit → Type 0} {x : Below} {way t₀ t k₀ 
         }
 
     -- its strings have no room, so no key below it has a slot
-    pub siblings_past : length k₀ ≡ slot_size → Descended x y.value.now y.path.now (byte_of_kind y.kind) k w k₁ w₁ None
+    pub siblings_past : length k₀ ≡ slot_size → Descended x y.value.now y.path.now (byte_of_kind (kind_of_byte y.byte)) k w k₁ w₁ None
         → Going row Has (TrieVisits x.nodes way (known_strings x.known k₀) y.rest.now) x t₀ y.rest.now o₀ o k₀ k₁
     siblings_past buffer down =
         record {
@@ -174,6 +174,6 @@ module _ {row : Row} {Has : List Visit → Type 0} {x : Below} {way t₀ t k₀ 
           room = l.room;
           same_reference = l.same_reference;
           by = going_on l.by
-              (put_none down.kept (long_visits y.kind (x.nodes + 1) (way ++ node_of (join (known_strings x.known k₀) (node_strings y)) (byte_of_kind y.kind)) (join (known_strings x.known k₀) (node_strings y)) y.body.now (long_known k₀ y.value.now y.path.now x.known.value x.known.path buffer x.known.value_fits x.known.path_fits down.is)))
+              (put_none down.kept (long_visits (kind_of_byte y.byte) (x.nodes + 1) (way ++ node_of (join (known_strings x.known k₀) (node_strings y)) (byte_of_kind (kind_of_byte y.byte))) (join (known_strings x.known k₀) (node_strings y)) y.body.now (long_known k₀ y.value.now y.path.now x.known.value x.known.path buffer x.known.value_fits x.known.path_fits down.is)))
               (below_split is y e);
         }

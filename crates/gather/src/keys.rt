@@ -69,7 +69,7 @@ pub fn walk<F: Format>(
     let mut t = tries;
     while let Some(node) = first_node(t) {
         if let Some(inside) = descend(key, way, below, &node) {
-            match node.kind {
+            match node.kind() {
                 Kind::Leaf => suffixes::<F>(node.body, inside, key, way, output),
                 Kind::Inner(_) => walk::<F>(node.body, inside, key, way, output),
             }

@@ -2,7 +2,7 @@
 ghost use Rattle.std.specs.Prelude.{◌≡◌, ◌+◌, ◌*◌, ◌<◌, ◌≤◌, [], ◌∷◌};
 ghost use Rattle.buffer.specs.Splice.{splice};
 ghost use Rattle.rows.specs.Sizes.{node_limit};
-ghost use Rattle.trie_read.specs.Kinds.{byte_of_kind};
+ghost use Rattle.trie_read.specs.Kinds.{byte_of_kind, kind_of_byte};
 ghost use Rattle.gather.specs.Visits.{node_size, Descended};
 
 use crate::key::enter;
@@ -11,19 +11,24 @@ use buffer::moves::copy_from;
 use entries::SLOT_SIZE;
 use rows::sizes::NODE_LIMIT;
 use trie_read::head::Node;
+use trie_read::kind::Kind;
 
 pub const NODE_SIZE: usize = 3;
 
 pub const WAY_SIZE: usize = NODE_SIZE * NODE_LIMIT;
 
 // Notes a node of a kind behind n others: the positions behind what is known at it, counted from 1.
-fn note(way: &mut [u8; WAY_SIZE], n: usize, kind: u8, known: Known)
+fn note(way: &mut [u8; WAY_SIZE], n: usize, kind: Kind, known: Known)
     requires { n < node_limit }
-    ensures { way.new ≡ splice way.old (node_size * n) (kind ∷ (known.path + 1) ∷ (known.value + 1) ∷ []) }
+    ensures { way.new ≡ splice way.old (node_size * n) (byte_of_kind kind ∷ (known.path + 1) ∷ (known.value + 1) ∷ []) }
 {
     let path = known.path + 1;
     let value = known.value + 1;
-    copy_from(way, NODE_SIZE * n, &[kind, path as u8, value as u8]);
+    copy_from(
+        way,
+        NODE_SIZE * n,
+        &[u8::from(kind), path as u8, value as u8],
+    );
 }
 
 // Goes down to a node and notes it. None where its strings have no room.
@@ -34,10 +39,10 @@ pub(crate) fn descend(
     node: &Node<'_>,
 ) -> Option<Below>
     requires { below.nodes < node_limit }
-    ensures { Descended below node.now.value.now node.now.path.now (byte_of_kind node.now.kind) key.old way.old key.new way.new result }
+    ensures { Descended below node.now.value.now node.now.path.now (byte_of_kind (kind_of_byte node.now.byte)) key.old way.old key.new way.new result }
 {
     let known = enter(key, below.known, node)?;
-    note(way, below.nodes, u8::from(node.kind), known);
+    note(way, below.nodes, node.kind(), known);
     Some(Below {
         nodes: below.nodes + 1,
         known,

@@ -26,7 +26,7 @@ use Rattle.entries.specs.Query.{Query, reaches}
 use Rattle.std.specs.Prelude.{Option, Some, None}
 use Rattle.std.specs.Option.{option_map}
 use Rattle.trie_read.specs.Shape.{above_of}
-use Rattle.trie_read.specs.Kinds.{number_of}
+use Rattle.trie_read.specs.Kinds.{kind_of_byte, number_of}
 use Rattle.trie_read.specs.Heads.{head_of, head_in}
 use Rattle.trie_read.specs.declared.head.Node.{Node}
 use Rattle.trie_read.specs.declared.kind.Dimension.{Dimension}
@@ -100,18 +100,18 @@ module _ {q : Query} {above : Above} {depth : ℕ} {k : Strings} {t : List ℕ} 
     tries_node ks e s =
         let h = told r x s.tries (is s.tries s.regular s.bytes) z in
         ⊎_elim
-        (λ (y : x.kind ≡ Leaf). let w = leaf_view (head_in x) s.tries s.regular h y in
+        (λ (y : (kind_of_byte x.byte) ≡ Leaf). let w = leaf_view (head_in x) s.tries s.regular h y in
         rw w.strings_are (leaf_roomy k w.strings w.suffixes w.more (rw w.is at s.nodes_fit)).0)
-        (λ (y : (d : Dimension) × (x.kind ≡ Inner d)). let w = inner_view (head_in x) s.tries y.0 s.regular h y.1 in
+        (λ (y : (d : Dimension) × ((kind_of_byte x.byte) ≡ Inner d)). let w = inner_view (head_in x) s.tries y.0 s.regular h y.1 in
         rw w.strings_are (inner_roomy k w.strings (number_of y.0) w.children w.more (rw w.is at s.nodes_fit)).0)
-        (kind? x.kind)
+        (kind? (kind_of_byte x.byte))
 
     pub tries_in : enters (reaches q) above k (node_strings x) ≡ true → (ks : List Key) (e : ℕ) → TriesFound q above depth k t ks e
-        → Parts (OneMore (BodyFound q x.kind (depth - 1) (join k (node_strings x)) x.body.now)) (Later q above depth k (node_strings x) x.rest.now) ks e
+        → Parts (OneMore (BodyFound q (kind_of_byte x.byte) (depth - 1) (join k (node_strings x)) x.body.now)) (Later q above depth k (node_strings x) x.rest.now) ks e
     tries_in y ks e s =
         let h = told r x s.tries (is s.tries s.regular s.bytes) z in
         ⊎_elim
-        (λ (o : x.kind ≡ Leaf).
+        (λ (o : (kind_of_byte x.byte) ≡ Leaf).
         let w = leaf_view (head_in x) s.tries s.regular h o in
         let n = w.strings_are in
         let f = leaf_in (reaches q) (takes q) above k w.strings w.more w.suffixes (rw n at y) in
@@ -146,7 +146,7 @@ module _ {q : Query} {above : Above} {depth : ℕ} {k : Strings} {t : List ℕ} 
           is = s.is ∙ ap (found (reaches q) (takes q) above k) w.is ∙ f.0;
           sum = s.entered ∙ ap (nodes_entered (reaches q) above k) w.is ∙ f.1;
         })
-        (λ (o : (d : Dimension) × (x.kind ≡ Inner d)).
+        (λ (o : (d : Dimension) × ((kind_of_byte x.byte) ≡ Inner d)).
         let d = number_of o.0 in
         let w = inner_view (head_in x) s.tries o.0 s.regular h o.1 in
         let n = w.strings_are in
@@ -174,14 +174,14 @@ module _ {q : Query} {above : Above} {depth : ℕ} {k : Strings} {t : List ℕ} 
           is = s.is ∙ ap (found (reaches q) (takes q) above k) w.is ∙ f.0;
           sum = s.entered ∙ ap (nodes_entered (reaches q) above k) w.is ∙ f.1;
         })
-        (kind? x.kind)
+        (kind? (kind_of_byte x.byte))
 
     pub tries_out : enters (reaches q) above k (node_strings x) ≡ false → (ks : List Key) (e : ℕ) → TriesFound q above depth k t ks e
         → TriesFound q above depth k x.rest.now ks e
     tries_out y ks e s =
         let h = told r x s.tries (is s.tries s.regular s.bytes) z in
         ⊎_elim
-        (λ (o : x.kind ≡ Leaf).
+        (λ (o : (kind_of_byte x.byte) ≡ Leaf).
         let w = leaf_view (head_in x) s.tries s.regular h o in
         let f = leaf_out (reaches q) (takes q) above k w.strings w.more w.suffixes (rw w.strings_are at y) in
         let u = leaf_sound above w.strings w.suffixes w.more (rw w.is at s.sound) in
@@ -198,7 +198,7 @@ module _ {q : Query} {above : Above} {depth : ℕ} {k : Strings} {t : List ℕ} 
           is = s.is ∙ ap (found (reaches q) (takes q) above k) w.is ∙ f.0;
           entered = s.entered ∙ ap (nodes_entered (reaches q) above k) w.is ∙ f.1;
         })
-        (λ (o : (d : Dimension) × (x.kind ≡ Inner d)).
+        (λ (o : (d : Dimension) × ((kind_of_byte x.byte) ≡ Inner d)).
         let d = number_of o.0 in
         let w = inner_view (head_in x) s.tries o.0 s.regular h o.1 in
         let f = inner_out (reaches q) (takes q) above k w.strings w.more d w.children (rw w.strings_are at y) in
@@ -216,7 +216,7 @@ module _ {q : Query} {above : Above} {depth : ℕ} {k : Strings} {t : List ℕ} 
           is = s.is ∙ ap (found (reaches q) (takes q) above k) w.is ∙ f.0;
           entered = s.entered ∙ ap (nodes_entered (reaches q) above k) w.is ∙ f.1;
         })
-        (kind? x.kind)
+        (kind? (kind_of_byte x.byte))
 
 -- known bytes and strings that have room behind them
 short_room : (k a b : List ℕ) (x : Known) → length k ≡ slot_size → Short (join (known_strings x k) (a ∷ b ∷ [])) → has_room x.value x.path a b ≡ true
@@ -251,7 +251,7 @@ module _ {Has : List Key → ℕ → Type 0} {q : Query} (above : Option Dimensi
 
     -- what is found below it
     abbrev Lower : (o' : Output) (k' : List ℕ) (n : ℕ) → Type 0
-    Lower o' k' n = Walked (BodyFound q x.kind (depth - 1) (known_strings u k₁) x.body.now) u x.body.now o o' k₁ k' n
+    Lower o' k' n = Walked (BodyFound q (kind_of_byte x.byte) (depth - 1) (known_strings u k₁) x.body.now) u x.body.now o o' k₁ k' n
 
     siblings_later : {o' : Output} {k' : List ℕ} {n : ℕ} → length k' ≡ slot_size → Lower o' k' n
         → Going Has (Later q (above_of above) depth (known_strings y k₀) (node_strings x) x.rest.now) y t₀ x.rest.now o₀ o' k₀ k' (m + (1 + n))

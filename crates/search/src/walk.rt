@@ -1,6 +1,7 @@
 // The walk of a search over tries in bytes. The first rows found that have room go into the output, and all are counted: with a room of 0 it only
 // counts. On bytes that are no trie of ours it returns all the same, with at most `depth` nested calls.
 ghost use Rattle.rows.specs.Sizes.{row_size};
+ghost use Rattle.trie_read.specs.Kinds.{kind_of_byte};
 ghost use Rattle.trie_read.specs.Shape.{above_of};
 ghost use Rattle.gather.specs.Walks.{known_strings};
 ghost use Rattle.gather.specs.Visits.{Ready};
@@ -58,9 +59,9 @@ fn search_body(
     output: &mut Output<'_>,
 ) -> usize
     requires { Ready row_size node.now.body.now output.old }
-    ensures { Walked (BodyFound (asks q.now) node.now.kind depth (known_strings known key.old) node.now.body.now) known node.now.body.now output.old output.new key.old key.new result }
+    ensures { Walked (BodyFound (asks q.now) (kind_of_byte node.now.byte) depth (known_strings known key.old) node.now.body.now) known node.now.body.now output.old output.new key.old key.new result }
 {
-    match node.kind {
+    match node.kind() {
         Kind::Leaf => {
             suffixes(q, node.body, key, known, output);
             0

@@ -23,7 +23,7 @@ use Rattle.trie_theory.specs.Encode.{Regular, encode, node_bytes, suffix_bytes}
 use Rattle.trie_theory.proofs.Branching.{meets_apart}
 use Rattle.std.specs.Prelude.{Option, Some, None}
 use Rattle.trie_read.specs.Shape.{above_of, part}
-use Rattle.trie_read.specs.Kinds.{number_of}
+use Rattle.trie_read.specs.Kinds.{kind_of_byte, number_of}
 use Rattle.trie_read.specs.Heads.{Head, head_of, head_in, Stands}
 use Rattle.trie_read.specs.declared.head.Node.{Node}
 use Rattle.trie_read.specs.Places.{top, Passed, Here, head_between}
@@ -181,7 +181,7 @@ module _ (t u : List ℕ) (n : Node) (l : length u ≤ length t) (e : u ≡ drop
   body_long = omega (arith, length-append ((s.lead ++ n.value.now) ++ n.path.now) n.body.now, path_long)
 
   pub between : head_in n
-      ≡ head_between t at_u n.kind (at_u + 7 + length n.value.now) (at_u + 7 + length n.value.now + length n.path.now)
+      ≡ head_between t at_u (kind_of_byte n.byte) (at_u + 7 + length n.value.now) (at_u + 7 + length n.value.now + length n.path.now)
       (at_u + 7 + length n.value.now + length n.path.now + length n.body.now)
   between =
       let v : part (at_u + 7) (at_u + 7 + length n.value.now) t ≡ n.value.now =

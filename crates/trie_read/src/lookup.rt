@@ -53,7 +53,7 @@ pub fn contains(tries: &[u8], value: &[u8], path: &[u8], reference: &[u8]) -> bo
         }
         v = &v[node.value.len()..];
         p = &p[node.path.len()..];
-        match node.kind {
+        match node.kind() {
             Kind::Leaf => return has_suffix(node.body, v, p, reference),
             Kind::Inner(dimension) => above = Some(dimension),
         }

@@ -39,7 +39,7 @@ pub fn find(
             let body = path + node.path.len();
             return Ok(Place::Node(NodePlace {
                 at,
-                kind: node.kind,
+                kind: node.kind(),
                 path,
                 body,
                 next: body + node.body.len(),

@@ -69,7 +69,7 @@ fn print_kind(console: &mut Console, kind: Kind) {
 
 fn print_node(console: &mut Console, node: &Node<'_>, indent: usize) {
     print_indent(console, indent);
-    print_kind(console, node.kind);
+    print_kind(console, node.kind());
     console.print_hex(node.value);
     print_path(console, node.path);
     console.print(b"\n");
@@ -112,7 +112,7 @@ fn draw(console: &mut Console, t: &[u8], indent: usize)
         return;
     };
     print_node(console, &node, indent);
-    match node.kind {
+    match node.kind() {
         Kind::Leaf => draw_suffixes(console, node.body, indent + 1),
         Kind::Inner(_) => draw(console, node.body, indent + 1),
     }

@@ -1,5 +1,6 @@
 -- Entered or not, the walk goes on behind a node.
 use mathlib.Core.Path.{refl, ◌∙◌}
+use Rattle.trie_read.specs.Kinds.{kind_of_byte}
 use Rattle.gather.proofs.Turning.{going_start, nothing_walked, siblings_done, siblings_in, siblings_past, leaf_walked, inner_walked, fewer}
 use Rattle.gather.proofs.Splitting.{low_visits}
 use Rattle.gather.proofs.keys.+walk.Goals.{in-Some-descend+in-Leaf, in-Some-descend+in-Inner, in_default-descend}
@@ -23,13 +24,13 @@ loop-node-preserved g t c =
       | in-Some-descend+in-Leaf w ↦
           let down = rw w.in-Some-descend.is at c.descend.ensures in
           record {
-            going = rw (w.output-is, w.key-is) (siblings_in i.going is y e stands.long down i.way (leaf_walked y.kind w.in-Leaf.is w.suffixes.ensures));
+            going = rw (w.output-is, w.key-is) (siblings_in i.going is y e stands.long down i.way (leaf_walked (kind_of_byte y.byte) (rw w.kind.ensures at w.in-Leaf.is) w.suffixes.ensures));
             way = rw w.way'-is (down.way_kept ∙ i.way);
           }
       | in-Some-descend+in-Inner w ↦
           let down = rw w.in-Some-descend.is at c.descend.ensures in
           record {
-            going = rw (w.output-is, w.key-is) (siblings_in i.going is y e stands.long down i.way (inner_walked y.kind w.in-Inner.field-0 w.in-Inner.is w.walk.ensures.walked));
+            going = rw (w.output-is, w.key-is) (siblings_in i.going is y e stands.long down i.way (inner_walked (kind_of_byte y.byte) w.in-Inner.field-0 (rw w.kind.ensures at w.in-Inner.is) w.walk.ensures.walked));
             way = rw w.way'-is (fewer c.args.below.nodes _ _ (rw down.is.one_more at w.walk.ensures.way_kept) ∙ down.way_kept ∙ i.way);
           }
       | in_default-descend w ↦

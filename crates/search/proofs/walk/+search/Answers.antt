@@ -6,10 +6,10 @@ use Rattle.search.proofs.walk.+search.Goals.{search_tries-in-Some-descend+else-c
 use Rattle.search.proofs.walk.+search.Goals as goal
 
 pub search_body-returns-in-Leaf : goal.search_body-returns-in-Leaf
-search_body-returns-in-Leaf t c = body_suffixes c.args.depth c.in-Leaf.is c.suffixes.ensures
+search_body-returns-in-Leaf t c = body_suffixes c.args.depth (rw c.kind.ensures at c.in-Leaf.is) c.suffixes.ensures
 
 pub search_body-returns-in-Inner : goal.search_body-returns-in-Inner
-search_body-returns-in-Inner t c = body_tries c.in-Inner.is c.search_tries.ensures
+search_body-returns-in-Inner t c = body_tries (rw c.kind.ensures at c.in-Inner.is) c.search_tries.ensures
 
 pub search_tries-returns-then-depth-eq0 : goal.search_tries-returns-then-depth-eq0
 search_tries-returns-then-depth-eq0 t c = tries_low c.if-depth-eq0.true

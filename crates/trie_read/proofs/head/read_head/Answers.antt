@@ -1,7 +1,7 @@
 -- What is read of a node's first seven bytes is its head; bytes that no node begins with are no trie's.
 use native.Mathlib.Omega.{arith}
 use Prim.Native.Nat.{◌+◌}
-use mathlib.Core.Path.{sym, ap, ◌∙◌}
+use mathlib.Core.Path.{refl, sym, ap, ◌∙◌}
 use lib.ListN.{length, take, length-take}
 use Rattle.std.specs.Prelude.{Ok}
 use Rattle.std.proofs.Common.{eqb-true, false-eqb}
@@ -38,4 +38,4 @@ returns-clause-inside c =
     }
 
 pub returns-clause-value : goal.returns-clause-value
-returns-clause-value c = λ f h e. ap Ok (as_node _ f h e (λ z. omega arith) _ _ _ _ c.from-2.ensures (omega arith) (omega arith) (omega arith))
+returns-clause-value c = λ f h e. ap Ok (as_node _ f h e (λ z. omega arith) _ _ _ _ refl (omega arith) (omega arith) (omega arith))

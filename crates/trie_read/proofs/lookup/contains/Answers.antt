@@ -42,7 +42,7 @@ returns-in-Leaf c =
     walk_leaf w _ (rw c.in-Some.is at c.first_node.ensures.value w.over w.shaped w.bytes)
     (sym c.same_branch.ensures ∙ c.if-not-same_branch.false)
     (sym c.agrees.ensures ∙ c.if-not-agrees.false)
-    c.in-Leaf.is _ c.has_suffix.ensures
+    (rw c.kind.ensures at c.in-Leaf.is) _ c.has_suffix.ensures
 
 pub loop-node-preserved : goal.loop-node-preserved
 loop-node-preserved c =
@@ -50,7 +50,7 @@ loop-node-preserved c =
     walk_down w _ (rw c.in-Some.is at c.first_node.ensures.value w.over w.shaped w.bytes)
     (sym c.same_branch.ensures ∙ c.if-not-same_branch.false)
     (sym c.agrees.ensures ∙ c.if-not-agrees.false)
-    c.in-Inner.dimension c.in-Inner.is
+    c.in-Inner.dimension (rw c.kind.ensures at c.in-Inner.is)
 
 pub returns : goal.returns
 returns c =

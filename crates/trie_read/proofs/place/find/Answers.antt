@@ -27,8 +27,9 @@ returns-then-own-byte-clause-found c =
     let l = c.loop-node in
     let i = (goal.at.returns-then-own-byte-clause-found c).In-Some in
     λ f h a e. let s = l.invariant.2 f h a e in
-    seek_found s (head_in c.in-Some.node) (told_some _ (c.read_head.ensures.value s.passed.over s.passed.shaped s.left) c.in-Some.node (read i))
-    (sym c.branch_byte-own.ensures ∙ c.if-own-byte.true ∙ c.branch_byte-byte.ensures) _ _ _ (between _ _ c.in-Some.node l.invariant.0 l.invariant.1 (stands i))
+    rw c.kind.ensures
+    (seek_found s (head_in c.in-Some.node) (told_some _ (c.read_head.ensures.value s.passed.over s.passed.shaped s.left) c.in-Some.node (read i))
+    (sym c.branch_byte-own.ensures ∙ c.if-own-byte.true ∙ c.branch_byte-byte.ensures) _ _ _ (between _ _ c.in-Some.node l.invariant.0 l.invariant.1 (stands i)))
 
 pub returns-then-byte-own-clause-found : goal.returns-then-byte-own-clause-found
 returns-then-byte-own-clause-found c =
