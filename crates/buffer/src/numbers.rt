@@ -1,4 +1,5 @@
-// Numbers in a slice, highest byte first.
+// Numbers in a slice, highest byte first. Of two widths, and not generic: each is one call of std on an array of its own length, over a width it
+// would be a loop, which is no plainer.
 ghost use Rattle.std.specs.Prelude.{◌≡◌, ◌+◌, ◌≤◌, length};
 ghost use Rattle.buffer.specs.Splice.{splice, region};
 ghost use Rattle.buffer.specs.Numbers.{bytes_of, number};

@@ -48,6 +48,7 @@ fn run(console: &mut Console, s: &mut [u8; 64], command: &[u8; 16]) {
     let a = usize::from(command[1]);
     let b = usize::from(command[2]);
     let n = usize::from(command[3]);
+    // One `match`, the only place that reads the number: a table of closures would be no plainer.
     match command[0] {
         0 => copy(s, a, &command[8..]),
         1 => shift(s, a, b, n),

@@ -1,5 +1,6 @@
 // Does a path fit a pattern? Calls go deeper only as the pattern gets shorter, so the pattern alone bounds the stack.
 // An answer `Never` stops the wild element before it from trying again, so the time is at most pattern times path.
+// The loops over `i` are no iterator chains: they read several slices, or two places of one, at one index.
 ghost use Rattle.std.specs.Prelude.{◌≡◌, true, false, ◌&&◌, ◌+◌, ◌-◌, ◌<◌, ◌≤◌, length, take, drop, get_or, eqb};
 ghost use Rattle.buffer.specs.Lists.{none};
 ghost use Rattle.glob.specs.Bytes.{slash};
@@ -20,6 +21,7 @@ pub(crate) enum Trial {
 }
 
 impl Trial {
+    // One `matches!`, under the name of its definition: a derived `==` is no plainer.
     fn is_fit(self) -> bool
         ensures { result ≡ is_fit self }
     {

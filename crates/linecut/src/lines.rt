@@ -8,7 +8,7 @@ use crate::sizes::LINE_LIMIT;
 // Stands for any number of bytes above the limit.
 const OVER: usize = LINE_LIMIT + 1;
 
-// A line that was cut off.
+// A line that was cut off. No Option or Result: both cases say something, and neither is a failure of the cutter.
 #[derive(Clone, Copy, PartialEq, Eq, Debug)]
 pub enum Cut {
     // Its bytes are the first of the cutter's.

@@ -26,7 +26,7 @@ pub fn is_only(f: &[u8], b: u8) -> bool
     }
 }
 
-// The number that digits spell.
+// The number that digits spell. Not by std's `parse`: that takes a `+` before them.
 fn digits(s: &[u8]) -> Option<u64>
     ensures { result ≡ number_from 0 s.now }
 {
@@ -51,7 +51,7 @@ fn is_plain(s: &[u8]) -> bool
     }
 }
 
-// The number of a field.
+// The number of a field. By hand as `digits` is: std's `parse` takes leading zeros too.
 #[tactic(auto, unfolding(crate::specs::Fields::number_of))]
 pub fn decimal(s: &[u8]) -> Option<u64>
     ensures { result ≡ number_of s.now }
@@ -59,7 +59,7 @@ pub fn decimal(s: &[u8]) -> Option<u64>
     if is_plain(s) { digits(s) } else { None }
 }
 
-// What a hex digit is worth.
+// What a hex digit is worth. Not by std's `to_digit`: that takes capital letters too.
 #[tactic(auto, unfolding(crate::specs::Fields::hex_digit, crate::specs::Fields::hex_value))]
 fn hex_value(b: u8) -> Option<u8>
     ensures { result ≡ cond (hex_digit b) (Some (hex_value b)) None }

@@ -87,7 +87,7 @@ impl<'a> Line<'a> {
         Some(Command::Setup { m, l, tau })
     }
 
-    // What the line says from the position on; nothing is misread.
+    // What the line says from the position on; None is misread.
     pub fn read(mut self) -> Option<Command<'a>>
         ensures { Says (meaning (drop self.entry.at self.entry.bytes.now)) result }
     {

@@ -37,6 +37,7 @@ fn decode(text: &[u8], out: &mut [u8]) -> usize
 }
 
 fn number(letter: u8, a: &[u8], b: &[u8]) -> u64 {
+    // One `match`, the only place that asks for the letter: a table of closures would be no plainer.
     match letter {
         b'p' => path_number(check_path(a)),
         b'q' => pattern_number(check_pattern(a)),

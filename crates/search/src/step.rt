@@ -39,14 +39,14 @@ fn both(value: Answer, path: Answer) -> Answer
     }
 }
 
-// Can known bytes be continued, by the answer of both dimensions?
+// Can known bytes be continued, by the answer of both dimensions? One `matches!`, under the name of its definition: `==` is no plainer.
 fn goes_on(answer: Answer) -> bool
     ensures { result ≡ goes_on answer }
 {
     !matches!(answer, Answer::Mismatch)
 }
 
-// Does a whole key match, by the answer of both dimensions?
+// Does a whole key match, by the answer of both dimensions? A name for one `matches!` as well.
 fn is_match(answer: Answer) -> bool
     ensures { result ≡ is_match answer }
 {

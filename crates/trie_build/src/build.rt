@@ -123,6 +123,7 @@ fn build(
     partition(slots, scratch, column);
     let mut rest = slots;
     let mut end = body;
+    // No `for`: the parts are of unlike length, and each is found from what is left.
     while !rest.is_empty() {
         let size = run(rest, column) * SLOT_SIZE;
         let (part, others) = rest.split_at_mut(size);

@@ -101,6 +101,7 @@ fn set<'a>(console: &mut Console, s: &mut [u8; MEMORY], input: &'a [u8]) -> &'a 
 
 fn run(console: &mut Console, s: &mut [u8; MEMORY], input: &[u8]) {
     let mut rest = input;
+    // No `for`: the sets are of unlike length.
     while !rest.is_empty() {
         rest = set(console, s, rest);
     }

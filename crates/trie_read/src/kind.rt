@@ -10,6 +10,7 @@ pub enum Dimension {
     Other(u8),
 }
 
+// No Option: a leaf is a kind too, and its byte is written.
 #[derive(Clone, Copy, Debug, PartialEq, Eq)]
 pub enum Kind {
     Leaf,

@@ -9,7 +9,7 @@ use crate::kind::Dimension;
 // Stands for the byte of a string without bytes. It is above all bytes, since such a string comes last; an Option's None would come first.
 pub const NO_BYTE: u16 = 256;
 
-// How many bytes both begin with.
+// How many bytes both begin with. By an index, no iterator chain: two slices are read at it.
 pub fn common_length(a: &[u8], b: &[u8]) -> usize
     ensures { (result ≡ length (common a.now b.now)) × (result ≤ length a.now) × (result ≤ length b.now) }
 {

@@ -9,7 +9,7 @@ use buffer::numbers::get64;
 use matcher::reach::Answer;
 use rows::sizes::VALUE_SIZE;
 
-// The numbers from..to, both included: none where `from` is above `to`.
+// The numbers from..to, both included: none where `from` is above `to`. No RangeInclusive of std: that is not Copy.
 #[derive(Clone, Copy)]
 pub struct Span {
     pub from: u64,
@@ -26,7 +26,7 @@ impl Span {
     }
 }
 
-// The number that at most 8 bytes are.
+// The number that at most 8 bytes are. Not by `from_be_bytes`: that reads an array of 8 bytes, and here may be fewer.
 fn number_of(s: &[u8]) -> u64
     requires { length s.now ≤ value_size }
     ensures { result ≡ number s.now }
