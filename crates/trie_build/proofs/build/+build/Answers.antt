@@ -89,7 +89,7 @@ pub loop-rest-init : goal.loop-rest-init
 loop-rest-init t c =
     let a = c.requires.0 in
     let o = c.open_node-shape.ensures in (
-      law.inner_start a o c.in-Inner.dimension c.in-Inner.is _ (rw c.column_of-column.ensures at c.partition.ensures),
+      law.inner_start a o c.in-Inner.dimension c.in-Inner.is _ (rw c.column_of-column.ensures at c.partition.ensures.set),
       rw (slots_even c.partition.new.slots (length (slots_of c.args.slots.now)) (c.partition.auto.slots ∙ c.requires.1)) (c.partition.auto.slots ∙ c.requires.1),
       omega arith,
     )
