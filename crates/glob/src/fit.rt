@@ -202,10 +202,9 @@ fn next_begin(pattern: Labels<'_>, path: &[u8], from: usize) -> usize
 fn try_last(p: &[u8], path: &[u8]) -> Trial
     ensures { Says (after_some (first (fits_label p.now) none)) (labels_of path.now) result }
 {
-    let a = last_label(path);
-    if a == 0 { // there is no label
-        return Trial::Never;
-    }
+    let Some(a) = last_label(path) else {
+        return Trial::Never; // there is no label
+    };
     if label_fits(p, &path[a..]) {
         return Trial::Fits;
     }
