@@ -45,9 +45,10 @@ pub record SharedLabels (p s : List ℕ) (r : ℕ) : Type 0 where
   pub begun_path : Begun (take (length s - r) (drop r s))
   pub passes : (t : Trial) → Says (fit_labels (labels_of (take (length p - r) (drop r p)))) (labels_of (take (length s - r) (drop r s))) t → Says (fit_labels (labels_of p)) (labels_of s) t
 
--- a trial may go on from r; or r is behind the pattern, and s does not fit
-abbrev pub AlikeLabels : List ℕ → List ℕ → ℕ → Type 0
-AlikeLabels p s r = (r ≤ length p → SharedLabels p s r) × (length p < r → fit_labels (labels_of p) (labels_of s) ≡ false)
+-- a trial may go on from r; or s does not fit
+abbrev pub AlikeLabels : List ℕ → List ℕ → Option ℕ → Type 0
+AlikeLabels p s (Some r) = SharedLabels p s r
+AlikeLabels p s None = fit_labels (labels_of p) (labels_of s) ≡ false
 
 -- where the last label begins: behind the last `/`; or there is none
 abbrev pub LastLabel : List ℕ → Option ℕ → Type 0
