@@ -14,7 +14,7 @@ use Rattle.buffer.proofs.Tests.{and_false}
 use Rattle.glob.specs.Bytes.{slash, star}
 use Rattle.glob.specs.Labels.{up_to_slash, labels_of, deep, Begun}
 use Rattle.glob.specs.Fit.{first, fits_label, fit_labels}
-use Rattle.glob.specs.Inner.{Says, SharedLabels, AlikeLabels}
+use Rattle.glob.specs.Inner.{Says, SharedLabels}
 use Rattle.glob.specs.declared.fit.Trial.TheVariants.{Fails}
 use Rattle.glob.proofs.Parts.{no_items, back, back_all, back_step, back_end}
 use Rattle.glob.proofs.Trials.{fit_one, first_on, end_law}
@@ -71,12 +71,6 @@ module _ (p s : List ℕ) where
         begun_path = subst Begun (sym (back_all s)) g;
         passes = λ r h. subst (λ (t : List ℕ). Says (fit_labels (labels_of p)) (labels_of t) r) (back_all s) (subst (λ (t : List ℕ). Says (fit_labels (labels_of t)) (labels_of (back s 0)) r) (back_all p) h);
       }
-
-  pub alike_shared : (r : ℕ) → SharedLabels p s r → AlikeLabels p s r
-  alike_shared r h = (λ l. h, λ l. absurd (omega (arith, h.in_pattern)))
-
-  pub alike_off : (r : ℕ) → length p < r → fit_labels (labels_of p) (labels_of s) ≡ false → AlikeLabels p s r
-  alike_off r l e = (λ m. absurd (omega arith), λ m. e)
 
   module _ (i : ℕ) (l : i < length p) (m : i < length s) (e : get_or p i 0 ≡ get_or s i 0) where
     -- both have the same byte at i, neither `*` nor `/`

@@ -1,6 +1,7 @@
 -- What the functions below the public ones promise. No public contract cites these.
-use Rattle.std.specs.Prelude.{ℕ, ◌+◌, ◌-◌, ◌<◌, ◌≤◌, ◌≡◌, List, Bool, true, false, length, take, drop}
-use Rattle.glob.specs.Labels.{labels_of, Begun}
+use Rattle.std.specs.Prelude.{ℕ, Option, Some, None, get_or, ◌+◌, ◌-◌, ◌<◌, ◌≤◌, ◌≡◌, List, Bool, true, false, length, take, drop}
+use Rattle.glob.specs.Bytes.{slash}
+use Rattle.glob.specs.Labels.{up_to_slash, labels_of, Begun}
 use Rattle.glob.specs.Fit.{after_some, fits_label, fit_labels}
 use Rattle.glob.specs.declared.fit.Trial.{Trial}
 use Rattle.glob.specs.declared.fit.Trial.TheVariants.{Fits, Fails, Never}
@@ -44,6 +45,12 @@ pub record SharedLabels (p s : List ℕ) (r : ℕ) : Type 0 where
   pub begun_path : Begun (take (length s - r) (drop r s))
   pub passes : (t : Trial) → Says (fit_labels (labels_of (take (length p - r) (drop r p)))) (labels_of (take (length s - r) (drop r s))) t → Says (fit_labels (labels_of p)) (labels_of s) t
 
--- a trial may go on from r; or r is behind the pattern, and s does not fit
-abbrev pub AlikeLabels : List ℕ → List ℕ → ℕ → Type 0
-AlikeLabels p s r = (r ≤ length p → SharedLabels p s r) × (length p < r → fit_labels (labels_of p) (labels_of s) ≡ false)
+-- a trial may go on from r; or s does not fit
+abbrev pub AlikeLabels : List ℕ → List ℕ → Option ℕ → Type 0
+AlikeLabels p s (Some r) = SharedLabels p s r
+AlikeLabels p s None = fit_labels (labels_of p) (labels_of s) ≡ false
+
+-- where the last label begins: behind the last `/`; or there is none
+abbrev pub LastLabel : List ℕ → Option ℕ → Type 0
+LastLabel s (Some a) = (a + length (up_to_slash (drop a s)) ≡ length s) × (1 ≤ a) × (get_or s (a - 1) 0 ≡ slash)
+LastLabel s None = 0 + length (up_to_slash s) ≡ length s

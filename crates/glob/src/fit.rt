@@ -115,8 +115,8 @@ fn begin_unlike(pattern: Labels<'_>, path: Labels<'_>) -> bool
 }
 
 // How many bytes may be passed over at once, since a pattern and a path begin with the same whole labels there, none with a `*`? 0 where none are, and
-// where the path ends first. More than the pattern has where it does not fit: bytes differ before a `*`, or the pattern has none and the path goes on.
-fn equal_labels(pattern: Labels<'_>, path: Labels<'_>) -> usize
+// where the path ends first. `None` where it does not fit: bytes differ before a `*`, or the pattern has none and the path goes on.
+fn equal_labels(pattern: Labels<'_>, path: Labels<'_>) -> Option<usize>
     requires { length pattern.bytes.now ≡ 0 → ⊥ }
     ensures { AlikeLabels pattern.entry.bytes.now path.entry.bytes.now result }
 {
@@ -124,19 +124,22 @@ fn equal_labels(pattern: Labels<'_>, path: Labels<'_>) -> usize
     let mut n = 0;
     for i in 1..pattern.len() {
         if path.len() <= i {
-            return n;
+            return Some(n);
         }
         if pattern[i] == STAR {
-            return n;
+            return Some(n);
         }
         if pattern[i] != path[i] {
-            return pattern.len() + 1;
+            return None;
         }
         if pattern[i] == SLASH { // both labels end
             n = i;
         }
     }
-    path.len() // the pattern has ended: so has the path, or it does not fit
+    if pattern.len() < path.len() {
+        return None;
+    }
+    Some(path.len()) // both have ended
 }
 
 // Label matching: tries the rest of a path against the pattern that remains.
@@ -153,11 +156,10 @@ fn labels(pattern: Labels<'_>, path: Labels<'_>) -> Trial
     if begin_unlike(pattern, path) {
         return Trial::Fails;
     }
-    let n = equal_labels(pattern, path);
+    let Some(n) = equal_labels(pattern, path) else {
+        return Trial::Fails; // but a `**` before may try the next label
+    };
     if n > 0 {
-        if n > pattern.bytes.len() {
-            return Trial::Fails; // but a `**` before may try the next label
-        }
         return labels(pattern.from(n), path.from(n));
     }
     let (p, behind) = pattern.split_first();
@@ -204,10 +206,9 @@ fn next_begin(pattern: Labels<'_>, path: &[u8], from: usize) -> usize
 fn try_last(p: &[u8], path: &[u8]) -> Trial
     ensures { Says (after_some (first (fits_label p.now) none)) (labels_of path.now) result }
 {
-    let a = last_label(path);
-    if a == 0 { // there is no label
-        return Trial::Never;
-    }
+    let Some(a) = last_label(path) else {
+        return Trial::Never; // there is no label
+    };
     if label_fits(p, &path[a..]) {
         return Trial::Fits;
     }

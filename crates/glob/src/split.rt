@@ -3,6 +3,7 @@ ghost use Rattle.std.specs.Prelude.{◌≡◌, ◌+◌, ◌-◌, ◌≤◌, leng
 ghost use Rattle.std.specs.List.{position_or_len};
 ghost use Rattle.glob.specs.Bytes.{slash};
 ghost use Rattle.glob.specs.Labels.{up_to_slash, labels_of, deep};
+ghost use Rattle.glob.specs.Inner.{LastLabel};
 
 use crate::bytes::{SLASH, STAR};
 
@@ -31,14 +32,11 @@ pub fn next_slash(s: &[u8], from: usize) -> usize
     from + bytes_before(&s[from..], SLASH)
 }
 
-// Where does the last label begin: behind the last `/`? Where there is none, 0.
-pub(crate) fn last_label(s: &[u8]) -> usize
-    ensures { (result + length (up_to_slash (drop result s.now)) ≡ length s.now) × ((result ≡ 0 → ⊥) → get_or s.now (result - 1) 0 ≡ slash) }
+// Where does the last label begin: behind the last `/`? `None` where there is none.
+pub(crate) fn last_label(s: &[u8]) -> Option<usize>
+    ensures { LastLabel s.now result }
 {
-    match s.iter().rposition(|b| *b == SLASH) {
-        Some(i) => i + 1,
-        None => 0,
-    }
+    Some(s.iter().rposition(|b| *b == SLASH)? + 1)
 }
 
 // How many labels are there: how many `/`? `filter(..).count()` takes twice as long here.

@@ -7,7 +7,7 @@ use lib.ListN.{length}
 use Rattle.buffer.proofs.Tests.{same?}
 use Rattle.glob.specs.Inner.{SharedLabels}
 use Rattle.glob.proofs.Cuts.{begun_at, begun_end}
-use Rattle.glob.proofs.Shared.{Run, run_first, run_on, run_next, shared_none, shared_on, shared_unlike, shared_longer, alike_shared, alike_off}
+use Rattle.glob.proofs.Shared.{Run, run_first, run_on, run_next, shared_none, shared_on, shared_unlike, shared_longer}
 use Rattle.glob.proofs.fit.equal_labels.Goals as goal
 use Rattle.glob.proofs.fit.equal_labels.Goals.{then-pattern-i-eq-SLASH, else-pattern-i-eq-SLASH}
 
@@ -22,8 +22,7 @@ returns-then-pattern-i c =
     let p = c.args.pattern.bytes.now in
     let s = c.args.path.bytes.now in
     let m : c.loop-i.i < length s = omega (arith, c.if-path-i.false) in
-    alike_off p s (length p + 1) (omega arith)
-    (shared_unlike p s c.loop-i.n c.loop-i.i (c.loop-i.invariant.1 (λ z. omega (arith, m))).1 c.loop-i-test.true (omega (arith, m)) c.if-pattern-i-eq-STAR.false (λ z. omega (arith, z, c.if-pattern-i.true)) c.loop-i.invariant.0)
+    shared_unlike p s c.loop-i.n c.loop-i.i (c.loop-i.invariant.1 (λ z. omega (arith, m))).1 c.loop-i-test.true (omega (arith, m)) c.if-pattern-i-eq-STAR.false (λ z. omega (arith, z, c.if-pattern-i.true)) c.loop-i.invariant.0
 
 pub loop-i-preserved : goal.loop-i-preserved
 loop-i-preserved c =
@@ -42,19 +41,26 @@ loop-i-preserved c =
           (c.loop-i.invariant.0, λ g. (omega (arith, m), run_on p s i l m e c.loop-i.n c.if-pattern-i-eq-STAR.false w.if-pattern-i-eq-SLASH.false run))
     ]
 
--- the pattern has ended
+-- the pattern has ended, and the path goes on
+pub returns-then-pattern-path : goal.returns-then-pattern-path
+returns-then-pattern-path c =
+    let p = c.args.pattern.bytes.now in
+    let s = c.args.path.bytes.now in
+    let run = c.loop-i.invariant.1 (λ z. omega (arith, c.if-pattern-path.true)) in
+    shared_longer p s c.loop-i.n c.loop-i.i run.1 (omega (arith, c.loop-i-test.false)) (omega (arith, c.if-pattern-path.true)) c.loop-i.invariant.0
+
+-- both have ended
 pub returns : goal.returns
 returns c =
     let p = c.args.pattern.bytes.now in
     let s = c.args.path.bytes.now in
-    let n = c.loop-i.n in
     let i = c.loop-i.i in
     let a = c.loop-i.invariant.0 in
     let end = c.loop-i-test.false in
+    let m : length s ≤ length p = omega (arith, c.if-pattern-path.false) in
     ⊎_elim
-    (λ (z : length s ≡ 0). alike_shared p s (length s) (subst (SharedLabels p s) (omega (arith, a.in_path, z)) a))
-    (λ (z : length s ≡ 0 → ⊥). let run = c.loop-i.invariant.1 z in (
-      λ m. subst (SharedLabels p s) (omega (arith, run.0, m, end)) (shared_on p s n i run.1 (omega arith) run.0 (begun_end p i (omega (arith, end))) (begun_end s i (omega (arith, m, end))) a),
-      λ m. shared_longer p s n i run.1 (omega (arith, end)) (omega (arith, m)) a,
-    ))
+    (λ (z : length s ≡ 0). subst (SharedLabels p s) (omega (arith, a.in_path, z)) a)
+    (λ (z : length s ≡ 0 → ⊥).
+    let run = c.loop-i.invariant.1 z in
+    subst (SharedLabels p s) (omega (arith, run.0, m, end)) (shared_on p s c.loop-i.n i run.1 (omega arith) run.0 (begun_end p i (omega (arith, end))) (begun_end s i (omega (arith, m, end))) a))
     (same? (length s) 0)
