@@ -4,7 +4,7 @@ use mathlib.Core.Path.{◌≡◌, refl, sym, ap, ◌∙◌, subst}
 use mathlib.Core.Bool.{Bool, true, not}
 use mathlib.Core.List.{List, [], ◌∷◌, ◌++◌, map}
 use native.Mathlib.Omega.{arith}
-use native.Mathlib.Nat.{mul_comm, div-lt_iff_lt-mul, mod-eq_of_lt}
+use native.Mathlib.Nat.{mul-zero, mul_comm, div-lt_iff_lt-mul, mod-eq_of_lt}
 use lib.ListN.{length}
 use Rattle.buffer.specs.Lists.{all, count}
 use Rattle.buffer.proofs.Lists.{map_append, all_test, all_tested}
@@ -17,7 +17,7 @@ use Rattle.trie_theory.specs.Level.{level_of}
 use Rattle.trie_theory.specs.SmallTrie.{added, grown, small_trie}
 use Rattle.trie_theory.proofs.SmallKept.{small_last}
 use Rattle.entries.specs.Keys.{entry_key}
-use Rattle.book.specs.Digits.{digit, quotient, level, small}
+use Rattle.book.specs.Digits.{digit, quotient, level_size, level, small}
 use Rattle.book.specs.Book.{Book, Sound, put, held, formed}
 use Rattle.book.specs.Tries.{level_trie, tries}
 use Rattle.book.specs.Overflow.{from_highest}
@@ -37,6 +37,11 @@ small_empty = refl
 pub level_empty : (τ : ℕ) → level_trie τ [] ≡ none
 unfolding level_trie sorted level_of
 level_empty τ = refl
+
+-- A LEVEL WHOSE DIGIT IS 0 HAS NO TRIE. No proof cites it: docs/STORE-FORMAT.md says so of the region
+pub digit_empty : (b : Book) (i : ℕ) → digit i (quotient b.M b.entries) ≡ 0 → (tries b).level i ≡ none
+unfolding tries level level_size
+digit_empty b i z = rw (z, mul-zero (b.M * 2 ^ i)) (level_empty b.τ)
 
 -- a level's trie is one of its entries as a set
 pub level_decided : (τ : ℕ) (xs ys : List Entry) → all fits_row xs ≡ true → all fits_row ys ≡ true

@@ -129,6 +129,22 @@ module _ (f : Front) (t : Tries) where
         ∙ ap (λ (x : List ℕ). top ++ (padded n (encode t'.small) ++ x)) (sym a)
         ∙ sym (Rattle.book.proofs.Regions.at_small f t')
 
+    -- (no proof cites it: an addition writes all regions up to a level, by write_lower)
+    pub write_level : (t' : Tries) (i : ℕ) → i < f.L → t'.small ≡ t.small → ((k : ℕ) → k < f.L → (k ≡ i → ⊥) → t'.level k ≡ t.level k)
+        → length (encode (t'.level i)) ≤ entry_room * f.M * 2 ^ i
+        → splice (store_of f t) (level_at f.M i) (padded (entry_room * f.M * 2 ^ i) (encode (t'.level i))) ≡ store_of f t'
+    unfolding top
+    write_level t' i h small same few =
+        let n = entry_room * f.M * 2 ^ i in
+        let c = above f.M (suc i) (f.L - suc i) in
+        let a = above_same f.M (suc i) (f.L - suc i) t t' (λ k l u. same k (omega arith) (λ z. omega arith)) in
+        let r = regions_same f.M i t t' small (λ k l. same k (omega arith) (λ z. omega arith)) in
+        ap (λ (s : List ℕ). splice s (level_at f.M i) (padded n (encode (t'.level i)))) (at_level i h)
+        ∙ splice_mid (top ++ regions f.M i t) (padded n (encode (t.level i))) (padded n (encode (t'.level i))) (c t) (level_at f.M i) (before_level i h)
+        (length_padded n (encode (t'.level i)) few ∙ sym (length_padded n (encode (t.level i)) (fits.levels i h)))
+        ∙ ap₂ (λ (x y : List ℕ). (top ++ x) ++ (padded n (encode (t'.level i)) ++ y)) (sym r) (sym a)
+        ∙ sym (Rattle.book.proofs.Regions.at_level f t' i h)
+
 -- the held number, in its four bytes
 pub write_held : (f : Front) (t : Tries) (n : ℕ) → splice (store_of f t) held_at (bytes_of 4 n) ≡ store_of (holding n f) t
 unfolding store_of padded front_bytes

@@ -16,7 +16,9 @@ use Rattle.matcher.specs.Bytes.{path_limit}
 use Rattle.rows.specs.Sizes.{value_size, reference_size, reference_at, length_at, path_at, row_size}
 use Rattle.rows.specs.Entry.{Entry, row, fits_row}
 use Rattle.rows.specs.Records.{records}
-use Rattle.rows.proofs.Rows.{fits, from_path, value_region, reference_at_lem, length_at_lem, length_side_by_side, records_side_by_side}
+use Rattle.rows.specs.Order.{entry_order, record_order}
+use Rattle.rows.specs.Sorted.{sorted}
+use Rattle.rows.proofs.Rows.{fits, from_path, value_region, reference_at_lem, length_at_lem, sort_records, length_side_by_side, records_side_by_side}
 use Rattle.entries.specs.Keys.{entry_key}
 use Rattle.entries.specs.Slots.{slot_size, slot, slot_key, short_path}
 
@@ -118,6 +120,12 @@ module _ (e : Entry) (short : length e.path ≤ path_limit) (full : length e.ref
 
 pub length_slot : (e : Entry) → fits_row e ≡ true → length (slot e) ≡ slot_size
 length_slot e h = slot_long e (fits e h).short (fits e h).full
+
+-- SLOTS SORT AS THEIR ENTRIES DO. No proof cites it: it says what `sort` makes of a level's slots
+pub sort_slots : (es : List Entry) → all fits_row es ≡ true
+    → flat (sorted record_order (records slot_size (length es) (flat (map slot es)))) ≡ flat (map slot (sorted entry_order es))
+unfolding slot
+sort_slots es h = sort_records (λ e. behind) slot_size length_slot es h
 
 pub records_slots : (es : List Entry) → all fits_row es ≡ true → records slot_size (length es) (flat (map slot es)) ≡ map slot es
 records_slots = records_side_by_side slot slot_size length_slot

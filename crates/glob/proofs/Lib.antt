@@ -4,5 +4,6 @@ pub mod Places
 pub mod Skips
 pub mod Trials
 pub mod Cuts
+pub mod Begins
 mod Shared
 pub mod Worked

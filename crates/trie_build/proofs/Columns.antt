@@ -2,7 +2,7 @@
 -- Assumes nothing.
 use mathlib.Core.Path.{◌≡◌, refl, sym, ap, ap₂, ◌∙◌}
 use mathlib.Core.Bool.{Bool, true, false, cond}
-use Prim.Native.Nat.{ℕ, zero, suc, ◌+◌, ◌<◌}
+use Prim.Native.Nat.{ℕ, zero, suc, ◌+◌, ◌≤◌, ◌<◌}
 use mathlib.Core.List.{List, [], ◌∷◌, ◌++◌, map}
 use native.Mathlib.Omega.{arith}
 use native.Mathlib.Nat.{zero-add}
@@ -24,6 +24,15 @@ use Rattle.trie_sets.specs.Partition.{with_byte, by_bytes}
 use Rattle.trie_build.specs.Steps.{column_of}
 use Rattle.trie_sets.proofs.Sharing.{first_of, first_end}
 use Rattle.trie_sets.proofs.Slotted.{region_get}
+
+-- the two columns, by cases on the dimension. No proof cites them: docs/PORT.md names them
+pub column_path : (d value path : ℕ) → 1 ≤ d → path_at + path ≡ column_of d value path
+column_path zero value path h = absurd (omega arith)
+column_path (suc d) value path h = refl
+
+pub column_value : (d value path : ℕ) → d < 1 → value ≡ column_of d value path
+column_value zero value path h = refl
+column_value (suc d) value path h = absurd (omega arith)
 
 -- the first byte behind j bytes of a stretch, where there is one
 first_region : (r : List ℕ) (a n j : ℕ) → first zero (drop j (region r a n) ∷ []) < 256 → first zero (drop j (region r a n) ∷ []) ≡ get_or r (a + j) 0

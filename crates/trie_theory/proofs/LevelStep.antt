@@ -8,7 +8,7 @@ use mathlib.Core.List.{List, [], ◌∷◌}
 use native.Mathlib.Omega.{arith}
 use lib.ListN.{length}
 use lib.Dec.{ltb}
-use borrow.Author.Tests.{ltb-true, le-ltb}
+use borrow.Author.Tests.{ltb-true, lt-ltb, le-ltb}
 use Rattle.trie_theory.specs.Forest.{Strings, Key, Forest, leaf, inner}
 use Rattle.buffer.specs.Lists.{All, nil, cons}
 use Rattle.trie_theory.specs.Strings.{strip}
@@ -17,7 +17,7 @@ use Rattle.trie_theory.specs.Position.{shared, differ}
 use Rattle.trie_theory.specs.Parts.{parts}
 use Rattle.trie_theory.specs.Level.{choice, node, each, grow, trie}
 use Rattle.buffer.proofs.Lists.{all_imp}
-use Rattle.trie_theory.proofs.Round.{not_some, turn_passes, turn_inside}
+use Rattle.trie_theory.proofs.Round.{not_some, turn_passes, turn_none, turn_inside}
 use Rattle.trie_theory.proofs.Parts.{parts_short}
 
 -- the children of keys that are partitioned in dimension d
@@ -39,9 +39,18 @@ module _ (n τ : ℕ) (above : Above) (ks : List Key) where
   pub choice_differ : (d : ℕ) → choice n τ above ks ≡ some d → differ d ks ≡ true
   choice_differ d e = turn_passes (λ d. differ d ks) n above d (chosen_by d e).1
 
+  -- there are more than τ (no proof cites it, nor choice_none below: they say when a level branches)
+  pub choice_many : (d : ℕ) → choice n τ above ks ≡ some d → τ < length ks
+  choice_many d e = (chosen_by d e).0
+
   -- it is one of the n
   pub choice_inside : (d : ℕ) → wanted n above < n → choice n τ above ks ≡ some d → d < n
   choice_inside d l e = turn_inside (λ d. differ d ks) n above d l (chosen_by d e).1
+
+  -- A LEAF of more than τ keys has keys that differ in no dimension
+  pub choice_none : wanted n above < n → choice n τ above ks ≡ none → τ < length ks → (d : ℕ) → d < n → differ d ks ≡ false
+  unfolding choice
+  choice_none l h m d u = turn_none (λ d. differ d ks) n above l (rw (lt-ltb τ (length ks) m) at h) d u
 
 -- no keys are not partitioned
 pub choice_empty : (n τ : ℕ) (above : Above) → choice n τ above [] ≡ none

@@ -10,6 +10,7 @@ pub mod Keys
 pub mod Search
 pub mod Walk
 pub mod SoundLaws
+pub mod NodeStrings
 pub mod Lookup
 pub mod Encode
 -- Levels

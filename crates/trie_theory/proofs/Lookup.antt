@@ -4,6 +4,7 @@ use Prim.Native.Nat.{ℕ}
 use mathlib.Core.Path.{◌≡◌, refl, sym, ap, ap₂, ◌∙◌}
 use mathlib.Core.Bool.{Bool, true, false, cond, ◌&&◌, ◌||◌}
 use mathlib.Core.List.{List, [], map}
+use mathlib.Core.Logic.{◌↔◌}
 use lib.ListN.{length}
 use lib.Dec.{eqb}
 use Rattle.trie_theory.specs.Forest.{Strings, Key, Forest, none, leaf, inner, join, under, keys, tops}
@@ -13,9 +14,9 @@ use Rattle.trie_theory.specs.Dimensions.{Above, below, branching}
 use Rattle.trie_theory.specs.SmallTrie.{meets}
 use Rattle.trie_theory.specs.Lookup.{same_key, among, member}
 use Rattle.trie_theory.specs.Sound.{Node, Sound}
-use Rattle.buffer.proofs.Lists.{all_head, all_tail, all_imp, any_append}
-use Rattle.buffer.proofs.Tests.{and_left, and_right, and_both, bool_ext}
-use Rattle.buffer.proofs.Lists.{bytes_true, bytes_refl, strings_true, strings_refl}
+use Rattle.buffer.proofs.Lists.{In, at_head, later, all_head, all_tail, all_imp, any_append}
+use Rattle.buffer.proofs.Tests.{and_left, and_right, and_both, or_right, bool_ext}
+use Rattle.buffer.proofs.Lists.{any_in, bytes_true, bytes_refl, strings_true, strings_refl}
 use Rattle.trie_theory.proofs.Prefix.{prefixes_all_begin, all_begin_prefixes, prefixes_join}
 use Rattle.trie_theory.proofs.Strings.{strip_join}
 use Rattle.trie_theory.proofs.Branching.{branching_prefix, meets_true, meets_false, meets_apart}
@@ -42,6 +43,17 @@ same_key_refl x = and_both (strings_refl x.strings) (bytes_refl x.reference)
 
 pub same_key_of : (x y : Key) → x ≡ y → same_key x y ≡ true
 same_key_of x y e = ap (same_key x) (sym e) ∙ same_key_refl x
+
+in_any : (t : Key → Bool) {x : Key} {xs : List Key} → In x xs → t x ≡ true → any t xs ≡ true
+unfolding any
+in_any t (at_head) e = rw e
+in_any t (later {y = y} {xs = xs} i) e = or_right (t y) (any t xs) (in_any t i e)
+
+-- X IS AMONG A LIST exactly if it stands there. No proof cites it: it says what `among` is
+pub among_in : (x : Key) (ys : List Key) → (among x ys ≡ true) ↔ In x ys
+unfolding among
+among_in x ys =
+    (λ e. let r = any_in (same_key x) ys e in rw (same_key_true x r.0 r.2) r.1, λ i. in_any (same_key x) i (same_key_refl x))
 
 remains_under : (s : Strings) (y : Key) → length s ≡ length y.strings → remains s (under s y) ≡ y
 unfolding remains under

@@ -1,6 +1,6 @@
 -- THE SEARCH THEOREM, of any tries whatever: a child that is passed over has no key that matches, since its branching byte
 -- begins all its keys. And the nodes that a search enters, walking, are those that the rule of entering admits.
-use Prim.Native.Nat.{ℕ, zero, suc, ◌+◌}
+use Prim.Native.Nat.{ℕ, zero, suc, ◌+◌, ◌≤◌}
 use mathlib.Core.Path.{◌≡◌, refl, sym, ap, ap₂, ◌∙◌}
 use mathlib.Core.Bool.{Bool, true, false, cond, true≢false}
 use mathlib.Core.List.{List, [], ◌∷◌, ◌++◌, map}
@@ -10,6 +10,7 @@ use Rattle.buffer.specs.Lists.{All, nil, cons, pick, count}
 use Rattle.trie_theory.specs.Strings.{all_begin}
 use Rattle.trie_theory.specs.Dimensions.{Above, root, below}
 use Rattle.trie_theory.specs.Search.{branch, node, nodes_in, admitted, enters, nodes_entered, found}
+use Rattle.trie_theory.specs.Size.{nodes}
 use Rattle.buffer.proofs.Lists.{pick_append}
 use Rattle.buffer.proofs.Sums.{count_append}
 use Rattle.buffer.proofs.Tests.{not-true}
@@ -119,3 +120,21 @@ module _ (reach : Strings → Bool) (down : (k l : Strings) → all_begin k l �
           cond w (1 + nodes_entered reach (below c) (join k s) children) 0 + nodes_entered reach above k more ≡ cond w (suc n) n
       go true q ihk ih = omega arith
       go false q ihk ih = omega (arith, ih, none_admitted c (join k s) children (blocked above q))
+
+-- NO MORE NODES ARE ENTERED THAN THERE ARE, whatever the query. No proof cites it: it bounds the second value of a search
+pub entered_most : (reach : Strings → Bool) (above : Above) (k : Strings) (f : Forest) → nodes_entered reach above k f ≤ nodes f
+unfolding nodes_entered nodes
+entered_most reach above k none = omega arith
+entered_most reach above k (leaf s ts more) = go (enters reach above k s) (entered_most reach above k more)
+  where
+    go : (w : Bool) → nodes_entered reach above k more ≤ nodes more
+        → cond w 1 0 + nodes_entered reach above k more ≤ suc (nodes more)
+    go true h = omega arith
+    go false h = omega arith
+entered_most reach above k (inner d s children more) =
+    go (enters reach above k s) (entered_most reach (below d) (join k s) children) (entered_most reach above k more)
+  where
+    go : (w : Bool) → nodes_entered reach (below d) (join k s) children ≤ nodes children → nodes_entered reach above k more ≤ nodes more
+        → cond w (1 + nodes_entered reach (below d) (join k s) children) 0 + nodes_entered reach above k more ≤ suc (nodes children + nodes more)
+    go true g h = omega arith
+    go false g h = omega arith
