@@ -1,6 +1,6 @@
--- The records of a trie of a store, and what a reading back lists of them. Assumes nothing: these are definitions.
-use Rattle.std.specs.Prelude.{ℕ, ◌≡◌, ◌≤◌, List, [], map}
-use Rattle.std.proofs.Common.{arith}
+-- The records of a trie of a store, and what a reading back lists of them: definitions, and the one law that the listing's impl names. Assumes nothing.
+use Rattle.std.specs.Prelude.{ℕ, ◌≡◌, refl, ◌≤◌, List, [], map}
+use borrow.Author.Tests.{leb-true}
 use Rattle.rows.specs.Sizes.{row_size, record_size}
 use Rattle.buffer.specs.Lists.{All}
 use Rattle.rows.specs.Order.{entry_order}
@@ -30,4 +30,4 @@ records_read n = reply 0 n 0
 
 -- a record begins with a row
 pub record_wide : row_size ≤ record_size
-record_wide = omega arith
+record_wide = leb-true row_size record_size refl
