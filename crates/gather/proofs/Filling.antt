@@ -81,6 +81,14 @@ module _ (x : Key) (h : has_slot x ≡ true) where
   unfolding key_row
   length_row = length-take-le row_size (key_slot x) (omega (arith, length_slot))
 
+  -- what stands in a slot: no proof cites these two, which say how a key is read back from its slot
+  pub slot_value : take value_size (key_slot x) ≡ at 0 x.strings
+  unfolding parts
+  slot_value = rw (slot_parts x) (take_at (at 0 x.strings) _ value_size w.value)
+
+  pub slot_path : region (key_slot x) path_at (length p) ≡ p
+  slot_path = rw (slot_parts x, parts_path (at 0 x.strings) x.reference (length p - 1) w.value w.reference p) (take_at p _ (length p) refl)
+
 -- ---- the key of an entry
 
 pub entry_has : (e : Entry) → fits_row e ≡ true → has_slot (entry_key e) ≡ true
