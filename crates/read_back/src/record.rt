@@ -9,8 +9,8 @@ use buffer::moves::{clear, copy_from};
 use entries::SLOT_SIZE;
 use gather::keys::Format;
 use gather::output::Output;
-use gather::way::{NODE_SIZE, WAY_SIZE};
-use rows::sizes::{RECORD_SIZE, ROW_SIZE};
+use gather::way::WAY_SIZE;
+use rows::sizes::{NODE_SIZE, RECORD_SIZE, ROW_SIZE};
 
 const COUNT_AT: usize = ROW_SIZE;
 
