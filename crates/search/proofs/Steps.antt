@@ -37,6 +37,11 @@ use Rattle.value_range.specs.Spans.{Spans}
 use Rattle.search.specs.declared.step.Common.{Common}
 use Rattle.search.specs.Steps.{both, takes, InCommon, Taken}
 
+-- the path known, where a slice has as many bytes
+pub path_asked : (pattern k : List ℕ) (n p : ℕ) (r : Answer) → n ≡ p → (FirstBytes (take n (drop path_at k)) → r ≡ reach_of pattern (take n (drop path_at k)))
+    → FirstBytes (take p (drop path_at k)) → r ≡ reach_of pattern (take p (drop path_at k))
+path_asked pattern k n p r e h = rw e at h
+
 -- ---- both dimensions
 
 pub both_goes : (v p : Answer) → goes_on (both v p) ≡ goes_on v && goes_on p
