@@ -51,6 +51,12 @@ both_goes Incomplete Mismatch = refl
 both_goes Incomplete Match = refl
 both_goes Incomplete Incomplete = refl
 
+-- a path that is no beginning answers for both
+pub both_out : (v p : Answer) → Mismatch ≡ p → Mismatch ≡ both v p
+both_out Mismatch p e = refl
+both_out Match p e = e
+both_out Incomplete p e = rw (← e) refl
+
 pub both_match : (v p : Answer) → is_match (both v p) ≡ is_match v && is_match p
 both_match Mismatch p = refl
 both_match Match p = refl

@@ -132,21 +132,9 @@ fn path_with(q: &Query<'_>, key: &mut [u8; SLOT_SIZE], p: usize, s: &[u8]) -> An
     reach_from(q.pattern, q.literal, &key[PATH_AT..end])
 }
 
-// The same, but most paths differ from the pattern where that has no wild byte yet: they are ruled out, and nothing is written.
-// In line: each child and each suffix is asked, most end at the first test, and as calls these two make a search up to a fifth slower (bench/index).
-#[inline(always)]
-fn path_answer(q: &Query<'_>, key: &mut [u8; SLOT_SIZE], p: usize, s: &[u8]) -> Answer
-    requires { p + length s.now ≤ ended_limit + 1 }
-    ensures value { FirstBytes (region key.old path_at p ++ s.now) → result ≡ reach_of q.now.pattern.now (region key.old path_at p ++ s.now) }
-    ensures key_unchanged { take (path_at + p) key.new ≡ take (path_at + p) key.old }
-{
-    if ruled_out(q.pattern, q.literal, p, s) {
-        return Answer::Mismatch;
-    }
-    path_with(q, key, p, s)
-}
-
-// The answer of both dimensions, where the value is answered and the path has the bytes s more: it is asked where the value is no mismatch.
+// The answer of both dimensions, where the value is answered and the path has the bytes s more: it is asked where the value is no mismatch. Most paths
+// differ from the pattern where that has no wild byte yet: they are ruled out, and nothing is written.
+// In line: each child and each suffix is asked, most end at the first test, and as a call this makes a search up to a fifth slower (bench/index).
 #[inline(always)]
 fn ask_path(value: Answer, q: &Query<'_>, key: &mut [u8; SLOT_SIZE], p: usize, s: &[u8]) -> Answer
     requires { p + length s.now ≤ ended_limit + 1 }
@@ -155,7 +143,8 @@ fn ask_path(value: Answer, q: &Query<'_>, key: &mut [u8; SLOT_SIZE], p: usize, s
 {
     match value {
         Answer::Mismatch => Answer::Mismatch,
-        _ => both(value, path_answer(q, key, p, s)),
+        _ if ruled_out(q.pattern, q.literal, p, s) => Answer::Mismatch,
+        _ => both(value, path_with(q, key, p, s)),
     }
 }
 
