@@ -1,16 +1,12 @@
 -- The slot of a key, and the bytes of a key that are known on the way down. Assumes nothing: these are definitions.
 use Rattle.std.specs.Prelude.{ℕ, ◌+◌, ◌-◌, Bool, ◌&&◌, List, [], ◌∷◌, ◌++◌, length, take, replicate, eqb, leb, ltb}
 use Rattle.buffer.specs.Splice.{region}
-use Rattle.matcher.specs.Bytes.{path_limit}
 use Rattle.rows.specs.Sizes.{value_size, reference_size, path_at, row_size}
+pub use Rattle.rows.specs.Sizes.{ended_limit}
 use Rattle.trie_theory.specs.Forest.{Strings, Key, under}
 use Rattle.trie_theory.specs.Strings.{at}
 use Rattle.entries.specs.Slots.{slot_size}
 use Rattle.trie_read.specs.Shape.{key_of}
-
--- a path and its end byte
-abbrev pub ended_limit : ℕ
-ended_limit = path_limit + 1
 
 -- a key that a slot has room for: a value of 8 bytes, a reference of 20, a path of at most 200 and its end byte
 unfoldable pub has_slot : Key → Bool

@@ -3,6 +3,7 @@ use Rattle.std.specs.Prelude.{ℕ, suc, ◌+◌, ◌*◌, ◌≤◌, ◌<◌, �
 use Rattle.buffer.specs.Sizes.{word_limit}
 use Rattle.buffer.specs.Lists.{pick}
 use Rattle.rows.specs.Sizes.{node_limit}
+pub use Rattle.rows.specs.Sizes.{node_size}
 use Rattle.trie_theory.specs.Forest.{Strings, Key, Forest, none, leaf, inner, join, under}
 use Rattle.trie_theory.specs.Size.{height}
 use Rattle.trie_theory.specs.Encode.{Regular, encode}
@@ -11,10 +12,7 @@ use Rattle.gather.specs.Walks.{PutBy, known_strings, Deeper, SuffixKeys}
 use Rattle.gather.specs.declared.known.Below.{Below}
 use Rattle.gather.specs.declared.output.Output.{Output}
 
--- the bytes of a node on the way, and the most for all nodes of a way
-abbrev pub node_size : ℕ
-node_size = 3
-
+-- the most bytes for all nodes of a way
 abbrev pub way_size : ℕ
 way_size = node_size * node_limit
 

@@ -8,13 +8,9 @@ ghost use Rattle.gather.specs.Walks.{Entered, known_strings};
 use crate::known::Known;
 use buffer::moves::{clear, copy_from};
 use entries::SLOT_SIZE;
-use matcher::bytes::PATH_LIMIT;
-use rows::sizes::{LENGTH_AT, PATH_AT, REFERENCE_AT, VALUE_SIZE};
+use rows::sizes::{ENDED_LIMIT, LENGTH_AT, PATH_AT, REFERENCE_AT, VALUE_SIZE};
 use trie_read::head::Node;
 use trie_read::suffix::Suffix;
-
-// A path and its end byte.
-pub const ENDED_LIMIT: usize = PATH_LIMIT + 1;
 
 // Writes what a suffix adds, and what is known stays: the buffer is then the slot of the key.
 fn fill(key: &mut [u8; SLOT_SIZE], known: Known, suffix: &Suffix<'_>)

@@ -9,11 +9,9 @@ use crate::key::enter;
 use crate::known::{Below, Known};
 use buffer::moves::copy_from;
 use entries::SLOT_SIZE;
-use rows::sizes::NODE_LIMIT;
+use rows::sizes::{NODE_LIMIT, NODE_SIZE};
 use trie_read::head::Node;
 use trie_read::kind::Kind;
-
-pub const NODE_SIZE: usize = 3;
 
 pub const WAY_SIZE: usize = NODE_SIZE * NODE_LIMIT;
 

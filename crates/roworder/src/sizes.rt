@@ -11,7 +11,12 @@ pub const PATH_AT: usize = LENGTH_AT + 1;
 
 pub const ROW_SIZE: usize = PATH_AT + PATH_LIMIT;
 
-// A record of a level read back: row, number of nodes, three bytes a node.
-pub const NODE_LIMIT: usize = 1 + VALUE_SIZE + PATH_LIMIT + 1;
+// A path and its end byte.
+pub const ENDED_LIMIT: usize = PATH_LIMIT + 1;
 
-pub const RECORD_SIZE: usize = ROW_SIZE + 1 + 3 * NODE_LIMIT;
+// A record of a level read back: row, number of nodes, three bytes a node.
+pub const NODE_SIZE: usize = 3;
+
+pub const NODE_LIMIT: usize = 1 + VALUE_SIZE + ENDED_LIMIT;
+
+pub const RECORD_SIZE: usize = ROW_SIZE + 1 + NODE_SIZE * NODE_LIMIT;

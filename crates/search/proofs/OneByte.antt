@@ -94,4 +94,4 @@ module _ (pattern : List ℕ) (low high v p byte : ℕ) (k : List ℕ) (long : l
     path_byte None z o = absurd (z refl)
     path_byte (Some Value) z o = absurd (o refl)
     path_byte (Some Path) z o = record { byte = byte; others = λ s two. two_strings (Refused (Some Path)) s two path_pair }
-    path_byte (Some (Other c)) z o = record { byte = byte; others = λ s two. two_strings (Refused (Some (Other c))) s two (λ a b starts other. absurd (no_third (c - 3) a b starts)) }
+    path_byte (Some (Other c)) z o = record { byte = byte; others = λ s two. two_strings (Refused (Some (Other c))) s two (λ a b starts other. absurd (no_third (c.byte - 3) a b starts)) }

@@ -29,12 +29,18 @@ use Rattle.gather.proofs.Filling.{known_same, unfilled, slot_kept}
 use Rattle.trie_read.specs.Shape.{above_of}
 use Rattle.trie_read.specs.Suffixes.{SuffixStands}
 use Rattle.trie_read.specs.declared.suffix.Suffix.{Suffix}
+use Rattle.trie_read.specs.declared.beyond.Beyond.{Beyond}
 use Rattle.trie_read.specs.declared.kind.Dimension.{Dimension}
 use Rattle.trie_read.specs.declared.kind.Dimension.TheVariants.{Value, Path, Other}
 use Rattle.buffer.proofs.Tests.{not_both, and_both, and_false}
 use Rattle.value_range.specs.Spans.{Spans}
 use Rattle.search.specs.declared.step.Common.{Common}
 use Rattle.search.specs.Steps.{both, takes, InCommon, Taken}
+
+-- the path known, where a slice has as many bytes
+pub path_asked : (pattern k : List ℕ) (n p : ℕ) (r : Answer) → n ≡ p → (FirstBytes (take n (drop path_at k)) → r ≡ reach_of pattern (take n (drop path_at k)))
+    → FirstBytes (take p (drop path_at k)) → r ≡ reach_of pattern (take p (drop path_at k))
+path_asked pattern k n p r e h = rw e at h
 
 -- ---- both dimensions
 
@@ -44,6 +50,12 @@ both_goes Match p = refl
 both_goes Incomplete Mismatch = refl
 both_goes Incomplete Match = refl
 both_goes Incomplete Incomplete = refl
+
+-- a path that is no beginning answers for both
+pub both_out : (v p : Answer) → Mismatch ≡ p → Mismatch ≡ both v p
+both_out Mismatch p e = refl
+both_out Match p e = e
+both_out Incomplete p e = rw (← e) refl
 
 pub both_match : (v p : Answer) → is_match (both v p) ≡ is_match v && is_match p
 both_match Mismatch p = refl
@@ -102,9 +114,9 @@ module _ (q : Query) (above : Option Dimension) (v p : ℕ) (k a b : List ℕ) w
       first_of [] = refl
       first_of (c ∷ b) = let z : min (suc (length b)) 1 ≡ 1 = omega arith in rw z
 
-  pub enters_other : (c : ℕ) → above ≡ Some (Other c)
+  pub enters_other : (c : Beyond) → above ≡ Some (Other c)
       → goes_on (value_reach q (take v k)) && goes_on (reach_of q.pattern (region k path_at p ++ [])) ≡ enters (reaches q) (above_of above) (known v p k) (a ∷ b ∷ [])
-  enters_other c e = rw e (enters_others q v p k a b [] (c - 3))
+  enters_other c e = rw e (enters_others q v p k a b [] (c.byte - 3))
 
 -- what stands above is one thing
 pub apart_none : {above : Option Dimension} {d : Dimension} → above ≡ Some d → above ≡ None → ⊥
@@ -119,7 +131,7 @@ apart_else e n z = n (some_same (sym e ∙ z))
 pub path_apart : {d : Dimension} → d ≡ Path → d ≡ Value → ⊥
 path_apart e z = let y : Path ≡ Value = sym e ∙ z in absurd cc
 
-pub other_apart : {d : Dimension} (c : ℕ) → d ≡ Other c → d ≡ Value → ⊥
+pub other_apart : {d : Dimension} (c : Beyond) → d ≡ Other c → d ≡ Value → ⊥
 other_apart c e z = let y : Other c ≡ Value = sym e ∙ z in absurd cc
 
 -- fewer of the first bytes of a path

@@ -19,10 +19,10 @@ ghost use Rattle.search.specs.Steps.{both, InCommon, Descended, Taken};
 use crate::query::Query;
 use buffer::moves::copy_from;
 use entries::SLOT_SIZE;
-use gather::key::{ENDED_LIMIT, compose, enter};
+use gather::key::{compose, enter};
 use gather::known::Known;
 use matcher::reach::{Answer, one_leads, reach_from, ruled_out};
-use rows::sizes::{PATH_AT, VALUE_SIZE};
+use rows::sizes::{ENDED_LIMIT, PATH_AT, VALUE_SIZE};
 use trie_read::head::Node;
 use trie_read::kind::Dimension;
 use trie_read::suffix::Suffix;
@@ -132,21 +132,9 @@ fn path_with(q: &Query<'_>, key: &mut [u8; SLOT_SIZE], p: usize, s: &[u8]) -> An
     reach_from(q.pattern, q.literal, &key[PATH_AT..end])
 }
 
-// The same, but most paths differ from the pattern where that has no wild byte yet: they are ruled out, and nothing is written.
-// In line: each child and each suffix is asked, most end at the first test, and as calls these two make a search up to a fifth slower (bench/index).
-#[inline(always)]
-fn path_answer(q: &Query<'_>, key: &mut [u8; SLOT_SIZE], p: usize, s: &[u8]) -> Answer
-    requires { p + length s.now ≤ ended_limit + 1 }
-    ensures value { FirstBytes (region key.old path_at p ++ s.now) → result ≡ reach_of q.now.pattern.now (region key.old path_at p ++ s.now) }
-    ensures key_unchanged { take (path_at + p) key.new ≡ take (path_at + p) key.old }
-{
-    if ruled_out(q.pattern, q.literal, p, s) {
-        return Answer::Mismatch;
-    }
-    path_with(q, key, p, s)
-}
-
-// The answer of both dimensions, where the value is answered and the path has the bytes s more: it is asked where the value is no mismatch.
+// The answer of both dimensions, where the value is answered and the path has the bytes s more: it is asked where the value is no mismatch. Most paths
+// differ from the pattern where that has no wild byte yet: they are ruled out, and nothing is written.
+// In line: each child and each suffix is asked, most end at the first test, and as a call this makes a search up to a fifth slower (bench/index).
 #[inline(always)]
 fn ask_path(value: Answer, q: &Query<'_>, key: &mut [u8; SLOT_SIZE], p: usize, s: &[u8]) -> Answer
     requires { p + length s.now ≤ ended_limit + 1 }
@@ -155,7 +143,8 @@ fn ask_path(value: Answer, q: &Query<'_>, key: &mut [u8; SLOT_SIZE], p: usize, s
 {
     match value {
         Answer::Mismatch => Answer::Mismatch,
-        _ => both(value, path_answer(q, key, p, s)),
+        _ if ruled_out(q.pattern, q.literal, p, s) => Answer::Mismatch,
+        _ => both(value, path_with(q, key, p, s)),
     }
 }
 

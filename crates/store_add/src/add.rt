@@ -11,15 +11,12 @@ use crate::lookup::has_entry;
 use crate::place::put_entry;
 use buffer::moves::copy_from;
 use buffer::numbers::put64;
-use buffer::sizes::{PATH_LIMIT, VALUE_SIZE};
+use rows::sizes::{ENDED_LIMIT, VALUE_SIZE};
 use store::front::Front;
 use store::opened::Store;
 use store::refusal::Refusal;
 use store_overflow::entry::Entry;
 use trie_write::key::Key;
-
-// A path with its end byte.
-const ENDED_LIMIT: usize = PATH_LIMIT + 1;
 
 // An addition that no check refuses, with the number of entries then held.
 #[derive(Clone, Copy, PartialEq, Eq, Debug)]

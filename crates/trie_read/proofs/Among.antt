@@ -5,6 +5,8 @@ use Prim.Native.Nat.{ℕ}
 use mathlib.Core.List.{List, [], ◌∷◌}
 use lib.ListN.{length}
 use lib.Dec.{eqb}
+use lib.Pointwise.{pointwise}
+use Rattle.rows.proofs.Compare.{same_pointwise}
 use Rattle.trie_theory.specs.Forest.{Strings, Key}
 use Rattle.buffer.specs.Lists.{All, any, same}
 use Rattle.trie_theory.specs.Strings.{at}
@@ -16,17 +18,28 @@ use Rattle.trie_read.proofs.Node.{two}
 use Rattle.trie_read.proofs.SuffixParts.{Seen, tail_end, tail_at}
 
 module _ (v p r v' p' r' : List ℕ) where
-  pub same_all : same eqb v v' ≡ true → same eqb p p' ≡ true → same_key (key_of v p r) (key_of v' p' r') ≡ same eqb r r'
+  same_all : same eqb v v' ≡ true → same eqb p p' ≡ true → same_key (key_of v p r) (key_of v' p' r') ≡ same eqb r r'
   unfolding same_key same
   same_all a b = rw (a, b)
 
-  pub same_value : same eqb v v' ≡ false → same_key (key_of v p r) (key_of v' p' r') ≡ false
+  same_value : same eqb v v' ≡ false → same_key (key_of v p r) (key_of v' p' r') ≡ false
   unfolding same_key same
   same_value a = rw a
 
-  pub same_path : same eqb v v' ≡ true → same eqb p p' ≡ false → same_key (key_of v p r) (key_of v' p' r') ≡ false
+  same_path : same eqb v v' ≡ true → same eqb p p' ≡ false → same_key (key_of v p r) (key_of v' p' r') ≡ false
   unfolding same_key same
   same_path a b = rw (a, b)
+
+-- the same, in the words of the library's comparison
+module _ (v p r v' p' r' : List ℕ) where
+  pub is_all : pointwise eqb v v' ≡ true → pointwise eqb p p' ≡ true → pointwise eqb r r' ≡ same_key (key_of v p r) (key_of v' p' r')
+  is_all a b = sym (same_pointwise r r') ∙ sym (same_all v p r v' p' r' (same_pointwise v v' ∙ a) (same_pointwise p p' ∙ b))
+
+  pub is_path : pointwise eqb v v' ≡ true → pointwise eqb p p' ≡ false → false ≡ same_key (key_of v p r) (key_of v' p' r')
+  is_path a b = sym (same_path v p r v' p' r' (same_pointwise v v' ∙ a) (same_pointwise p p' ∙ b))
+
+  pub is_value : pointwise eqb v v' ≡ false → false ≡ same_key (key_of v p r) (key_of v' p' r')
+  is_value a = sym (same_value v p r v' p' r' (same_pointwise v v' ∙ a))
 
 -- a key of two strings
 pub two_strings : (t : Key) → length t.strings ≡ 2 → t ≡ key_of (at 0 t.strings) (at 1 t.strings) t.reference

@@ -1,9 +1,11 @@
 -- Kinds and dimensions against the numbers that the theory has for them. Assumes nothing.
 use mathlib.Core.Path.{◌≡◌, refl, sym, ap, ◌∙◌}
-use Prim.Native.Nat.{ℕ, zero, suc, ◌-◌}
+use Prim.Native.Nat.{ℕ, zero, suc, ◌-◌, ◌<◌}
 use native.Mathlib.Omega.{arith}
+use native.Mathlib.Bridge.{le_prop}
 use Rattle.trie_read.specs.Kinds.{number_of, kind_of_byte, byte_of_kind}
 use Rattle.trie_read.specs.declared.kind.Dimension.{Dimension}
+use Rattle.trie_read.specs.declared.kind.Dimension.TheVariants.{Other}
 use Rattle.trie_read.specs.declared.kind.Kind.{Kind}
 use Rattle.trie_read.specs.declared.kind.Kind.TheVariants.{Leaf, Inner}
 
@@ -13,6 +15,13 @@ byte_back zero = refl
 byte_back (suc zero) = refl
 byte_back (suc (suc zero)) = refl
 byte_back (suc (suc (suc b))) = refl
+
+-- the kind of a byte above those of ours
+pub beyond_kind : (b : ℕ) (q : 2 < b) → ◌≡◌ {A = Kind} (Inner (Other (record { byte = b; above = q }))) (kind_of_byte b)
+beyond_kind zero q = absurd (omega arith)
+beyond_kind (suc zero) q = absurd (omega arith)
+beyond_kind (suc (suc zero)) q = absurd (omega arith)
+beyond_kind (suc (suc (suc b))) q = ap (λ (p : 2 < suc (suc (suc b))). Inner (Other (record { byte = suc (suc (suc b)); above = p }))) (le_prop q _)
 
 -- the dimension of an inner node
 dimension_in : Kind → ℕ

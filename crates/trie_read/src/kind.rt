@@ -2,12 +2,14 @@
 ghost use Rattle.std.specs.Prelude.{◌≡◌};
 ghost use Rattle.trie_read.specs.Kinds.{kind_of_byte, byte_of_kind};
 
+use crate::beyond::Beyond;
+
 // In which dimension the children of a node differ. `Other`: in none that a key has; no trie of ours has such a node, but other bytes may say so.
 #[derive(Clone, Copy, Debug, PartialEq, Eq)]
 pub enum Dimension {
     Value,
     Path,
-    Other(u8),
+    Other(Beyond),
 }
 
 // No Option: a leaf is a kind too, and its byte is written.
@@ -25,7 +27,7 @@ impl From<u8> for Kind {
             0 => Kind::Leaf,
             1 => Kind::Inner(Dimension::Value),
             2 => Kind::Inner(Dimension::Path),
-            _ => Kind::Inner(Dimension::Other(byte)),
+            _ => Kind::Inner(Dimension::Other(Beyond { byte })),
         }
     }
 }
@@ -38,7 +40,7 @@ impl From<Kind> for u8 {
             Kind::Leaf => 0,
             Kind::Inner(Dimension::Value) => 1,
             Kind::Inner(Dimension::Path) => 2,
-            Kind::Inner(Dimension::Other(byte)) => byte,
+            Kind::Inner(Dimension::Other(beyond)) => beyond.byte,
         }
     }
 }

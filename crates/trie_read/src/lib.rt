@@ -3,6 +3,7 @@
 //   kind (1 V, 2 path, 0 leaf) | v | p | body length, 4 bytes | v value bytes | p path bytes | body
 #![tactic(auto)]
 
+pub mod beyond;
 pub mod head;
 pub mod kind;
 pub mod lookup;

@@ -16,6 +16,7 @@ pub struct Suffix<'a> {
 
 impl Suffix<'_> {
     // Is it this key?
+    #[tactic(auto, using(crate::proofs::Among::is_all, crate::proofs::Among::is_path, crate::proofs::Among::is_value))]
     pub(crate) fn is(&self, value: &[u8], path: &[u8], reference: &[u8]) -> bool
         ensures { result ≡ same_key (key_of value.now path.now reference.now) (key_of self.now.value.now self.now.path.now self.now.reference.now) }
     {

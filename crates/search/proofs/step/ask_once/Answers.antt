@@ -1,16 +1,15 @@
 -- The dimension in which they branch, and the other.
 use native.Mathlib.Omega.{arith}
-use Prim.Native.Nat.{ℕ, ◌+◌, ◌-◌, ◌<◌}
+use Prim.Native.Nat.{◌<◌}
 use mathlib.Core.Path.{◌≡◌, refl, sym, ap, ◌∙◌}
-use lib.ListN.{take, drop}
+use lib.ListN.{take}
 use lib.Seq.{length-take-le}
 use borrow.Author.Tests.{eqb-true}
-use Rattle.matcher.specs.Reach.{reach_of}
-use Rattle.rows.specs.Sizes.{value_size, path_at}
+use Rattle.rows.specs.Sizes.{value_size}
 use Rattle.value_range.specs.Spans.{Spans}
 use Rattle.search.specs.Asks.{asks}
 use Rattle.search.proofs.OneByte.{value_byte, path_byte}
-use Rattle.search.proofs.Steps.{apart_none, apart_else}
+use Rattle.search.proofs.Steps.{apart_none, apart_else, path_asked}
 use Rattle.std.specs.Prelude.{Some}
 use Rattle.search.proofs.step.ask_once.Goals as goal
 
@@ -20,12 +19,11 @@ returns-in-Value c =
     let x = a.known in
     let bytes = c.branches-bytes in
     let is = c.in-Some.is ∙ ap Some c.in-Value.is in
-    let path : path_at + x.path - path_at ≡ x.path = omega arith in
     let spans : x.value < value_size → Spans (asks a.q.now) (take x.value a.key.now) 1 bytes.result.from bytes.result.to =
     λ short. bytes.ensures a.q.now.pattern.now (omega (arith, length-take-le x.value a.key.now (omega (arith, x.value_fits)))) in
     record {
       bytes = λ k short. spans short;
-      path = λ o f. c.reach_from.ensures a.q.now.formed a.q.now.prefix (rw path f) ∙ ap (λ (n : ℕ). reach_of a.q.now.pattern.now (take n (drop path_at a.key.now))) path;
+      path = λ o f. path_asked a.q.now.pattern.now a.key.now _ x.path _ (omega arith) (c.reach_from.ensures a.q.now.formed a.q.now.prefix) f;
       value = λ z o. absurd (o is);
       single = λ y.
           let same : bytes.result.to ≡ bytes.result.from = sym (eqb-true bytes.result.from bytes.result.to y) in
