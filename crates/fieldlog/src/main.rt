@@ -7,12 +7,13 @@ ghost use Rattle.session.specs.Stands.{state_of, text_of};
 ghost use Rattle.session.specs.Whole.{FedBytes, FedSome, FedLog, start};
 
 use console::Console;
+use logline::sizes::LINE_LIMIT;
 use session::feed::Session;
-use session::sizes::STORE_SIZE;
+use session::sizes::{ANSWER_SIZE, PRINT_LIMIT, STORE_SIZE};
 use std::io;
 
 // Feeds the bytes of a chunk in turn, and prints what each completes.
-fn feed_chunk(console: &mut Console, session: &mut Session, chunk: &[u8])
+fn feed_chunk(console: &mut Console, session: &mut Session<'_>, chunk: &[u8])
     ensures { FedBytes (state_of session.old) chunk.now (state_of session.new) }
 {
     for byte in chunk {
@@ -22,7 +23,7 @@ fn feed_chunk(console: &mut Console, session: &mut Session, chunk: &[u8])
 }
 
 // Reads until the input ends, and feeds what comes. The number of reads is bounded, by more than any input needs, because a loop has to end.
-fn feed_all(console: &mut Console, session: &mut Session)
+fn feed_all(console: &mut Console, session: &mut Session<'_>)
     ensures { FedSome (state_of session.old) (state_of session.new) }
 {
     let mut chunk = [0; 4096];
@@ -37,9 +38,9 @@ fn feed_all(console: &mut Console, session: &mut Session)
 
 // Carries out the input on a store that is all zero; what the last line prints is still to be printed. That no line is left out is read here, no
 // contract says it.
-fn run(console: &mut Console, session: &mut Session)
-    requires { state_of session.old ≡ start session.old.lines.bytes }
-    ensures { FedLog (start session.old.lines.bytes) (text_of session.new) }
+fn run(console: &mut Console, session: &mut Session<'_>)
+    requires { state_of session.old ≡ start session.old.lines.bytes.now }
+    ensures { FedLog (start session.old.lines.bytes.now) (text_of session.new) }
 {
     feed_all(console, session);
     session.feed_end();
@@ -47,7 +48,11 @@ fn run(console: &mut Console, session: &mut Session)
 
 fn main(rt: HostRuntime) -> io::Result<()> {
     let mut console = Console::new(rt.stdin(), rt.stdout());
-    let mut session = Session::new([0u8; STORE_SIZE]);
+    let mut line = [0u8; LINE_LIMIT];
+    let mut store = [0u8; STORE_SIZE];
+    let mut answer = [0u8; ANSWER_SIZE];
+    let mut out = [0u8; PRINT_LIMIT];
+    let mut session = Session::new(&mut line, &mut store, &mut answer, &mut out);
     run(&mut console, &mut session);
     console.print(session.text());
     console.finish()

@@ -10,10 +10,12 @@ use lib.Seq.{take-suc-set}
 use lib.Dec.{leb, eqb}
 use borrow.Author.Tests.{leb-true, leb-false, le-leb, lt-leb, eq-eqb, ne_eqb, lt-ltb, le-ltb}
 use Rattle.buffer.specs.Lists.{none}
+use Rattle.buffer.specs.Splice.{splice}
 use Rattle.buffer.proofs.Splice.{set_splice}
 use Rattle.linecut.specs.Input.{lines_from, lines_of, Given, given, begun_after, on_byte, on_end, Holds, told, Within, event_of, Fed, Runs, pushed_event, pushed_len, pushed_buffer, PushedAs, finished_event}
 use Rattle.linecut.specs.Input.Runs.{finishes, pushes}
 use Rattle.std.proofs.Common.{Some, None}
+use Rattle.linecut.specs.declared.lines.Cut.{Cut}
 use Rattle.linecut.specs.declared.lines.Cut.TheVariants.{Line, Long}
 
 -- ---- what is fed is handed over line by line
@@ -50,13 +52,12 @@ by_length {P} n f g = go (leb n 512) refl
     go true e = f (leb-true n 512 e)
     go false e = g (leb-false n 512 e)
 
-module _ (len : ℕ) (buf begun : List ℕ) (h : Holds len buf begun) where
-  pub ended_tells : told (Some (event_of len)) buf ≡ given begun ∷ []
-  unfolding given event_of
-  ended_tells = by_length (length begun)
-      (λ k. rw (le-leb (length begun) 512 k, (h.fits k).0, le-leb (length begun) 512 k, ← (h.fits k).0, (h.fits k).1))
-      (λ k. rw (lt-leb (length begun) 512 k, h.over k))
+-- how a line is cut off that has at most 512 bytes
+pub event_line : (n : ℕ) → n ≤ 512 → Line n ≡ event_of n
+unfolding event_of
+event_line n h = rw (le-leb n 512 h)
 
+module _ (len : ℕ) (buf begun : List ℕ) (h : Holds len buf begun) where
   -- the end of the input
   pub end_none : len ≡ 0 → [] ≡ on_end begun
   unfolding on_end
@@ -66,26 +67,15 @@ module _ (len : ℕ) (buf begun : List ℕ) (h : Holds len buf begun) where
       none_begun [] e = refl
       none_begun (x ∷ l) e = absurd (omega arith)
 
-  pub end_line : (len ≡ 0 → ⊥) → told (Some (event_of len)) buf ≡ on_end begun
-  unfolding on_end
-  end_line ne = ended_tells ∙ some_begun begun (λ e. by_length (length begun) (λ k. ne ((h.fits k).0 ∙ e)) (λ k. absurd (omega arith)))
-    where
-      some_begun : (l : List ℕ) → (length l ≡ 0 → ⊥) → given l ∷ [] ≡ cond (none l) [] (given l ∷ [])
-      some_begun [] n = absurd (n refl)
-      some_begun (x ∷ l) n = refl
-
-  -- a byte: the end of the line, one byte more, or one too many
-  pub push_end : (b : ℕ) → b ≡ 10 → Fed begun b (Some (event_of len)) 0 buf
-  unfolding on_byte begun_after
-  push_end b e = record { tells = rw (eq-eqb b 10 e) ended_tells; holds = rw (eq-eqb b 10 e) (holds_start buf h.room) }
-
-  pub push_more : (b : ℕ) → (b ≡ 10 → ⊥) → len < 512 → Fed begun b None (len + 1) (set buf len b)
+  -- a byte: one more, or one too many
+  pub push_more : (b : ℕ) → (b ≡ 10 → ⊥) → len < 512 → Fed begun b None (len + 1) (splice buf len (b ∷ []))
   unfolding on_byte begun_after
   push_more b ne k =
       let f : (len ≡ length begun) × (take len buf ≡ begun) = by_length (length begun) h.fits (λ o. absurd (omega (arith, h.over o))) in
       let n : length (begun ++ (b ∷ [])) ≡ len + 1 = length-append begun (b ∷ []) ∙ omega (arith, f.0) in
       let room : len < length buf = omega (arith, h.room) in
       let t : take (len + 1) (set buf len b) ≡ begun ++ (b ∷ []) = rw (add-one, take-suc-set buf len b room, f.1) in
+      rw (← set_splice buf len b room)
       record {
         tells = rw (ne_eqb b 10 ne);
         holds = rw (ne_eqb b 10 ne) (record { room = length-set buf len b ∙ h.room; fits = λ _. (sym n, t); over = λ o. absurd (omega arith) });
@@ -100,6 +90,26 @@ module _ (len : ℕ) (buf begun : List ℕ) (h : Holds len buf begun) where
         tells = rw (ne_eqb b 10 ne);
         holds = rw (ne_eqb b 10 ne) (record { room = h.room; fits = λ s. absurd (omega arith); over = λ _. refl });
       }
+
+  module _ (cut : Cut) (c : cut ≡ event_of len) where
+    pub ended_tells : told (Some cut) buf ≡ given begun ∷ []
+    unfolding given event_of
+    ended_tells = rw c (by_length (length begun)
+        (λ k. rw (le-leb (length begun) 512 k, (h.fits k).0, le-leb (length begun) 512 k, ← (h.fits k).0, (h.fits k).1))
+        (λ k. rw (lt-leb (length begun) 512 k, h.over k)))
+
+    -- the end of the input, and of the line
+    pub end_line : (len ≡ 0 → ⊥) → told (Some cut) buf ≡ on_end begun
+    unfolding on_end
+    end_line ne = ended_tells ∙ some_begun begun (λ e. by_length (length begun) (λ k. ne ((h.fits k).0 ∙ e)) (λ k. absurd (omega arith)))
+      where
+        some_begun : (l : List ℕ) → (length l ≡ 0 → ⊥) → given l ∷ [] ≡ cond (none l) [] (given l ∷ [])
+        some_begun [] n = absurd (n refl)
+        some_begun (x ∷ l) n = refl
+
+    pub push_end : (b : ℕ) → b ≡ 10 → Fed begun b (Some cut) 0 buf
+    unfolding on_byte begun_after
+    push_end b e = record { tells = rw (eq-eqb b 10 e) ended_tells; holds = rw (eq-eqb b 10 e) (holds_start buf h.room) }
 
 -- ---- the theorem: a run from the start, on whatever buffer, tells exactly the lines of its input
 
@@ -116,19 +126,15 @@ runs_lines buf input out h r = runs_fed r [] (holds_start buf h) ∙ fed_lines i
 -- ---- what is answered for any state
 
 module _ (len b : ℕ) (buf : List ℕ) where
-  pub as_end : b ≡ 10 → PushedAs len buf b (Some (event_of len)) 0 buf
+  pub as_end : (cut : Cut) → cut ≡ event_of len → b ≡ 10 → PushedAs len buf b (Some cut) 0 buf
   unfolding pushed_event pushed_len pushed_buffer
-  as_end e =
-      record { event_is = rw (eq-eqb b 10 e); next_is = rw (eq-eqb b 10 e); after_is = rw (eq-eqb b 10 e) }
+  as_end cut c e =
+      record { event_is = rw (eq-eqb b 10 e) (ap Some c); next_is = rw (eq-eqb b 10 e); after_is = rw (eq-eqb b 10 e) }
 
-  pub as_more : (b ≡ 10 → ⊥) → len < 512 → length buf ≡ 512 → PushedAs len buf b None (len + 1) (set buf len b)
+  pub as_more : (b ≡ 10 → ⊥) → len < 512 → PushedAs len buf b None (len + 1) (splice buf len (b ∷ []))
   unfolding pushed_event pushed_len pushed_buffer
-  as_more n l r =
-      record {
-        event_is = rw (ne_eqb b 10 n);
-        next_is = rw (ne_eqb b 10 n, lt-ltb len 512 l);
-        after_is = rw (ne_eqb b 10 n, lt-ltb len 512 l) (set_splice buf len b (omega arith));
-      }
+  as_more n l =
+      record { event_is = rw (ne_eqb b 10 n); next_is = rw (ne_eqb b 10 n, lt-ltb len 512 l); after_is = rw (ne_eqb b 10 n, lt-ltb len 512 l) }
 
   pub as_over : (b ≡ 10 → ⊥) → 512 ≤ len → PushedAs len buf b None 513 buf
   unfolding pushed_event pushed_len pushed_buffer
@@ -139,9 +145,9 @@ pub finished_none : (len : ℕ) → len ≡ 0 → None ≡ finished_event len
 unfolding finished_event
 finished_none len e = rw (eq-eqb len 0 e)
 
-pub finished_line : (len : ℕ) → (len ≡ 0 → ⊥) → Some (event_of len) ≡ finished_event len
+pub finished_line : (len : ℕ) (cut : Cut) → cut ≡ event_of len → (len ≡ 0 → ⊥) → Some cut ≡ finished_event len
 unfolding finished_event
-finished_line len n = rw (ne_eqb len 0 n)
+finished_line len cut c n = rw (ne_eqb len 0 n) (ap Some c)
 
 -- a line that is told of is in the buffer
 module _ (len size : ℕ) (h : size ≡ 512) where

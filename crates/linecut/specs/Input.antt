@@ -41,6 +41,11 @@ pub record Holds (len : ℕ) (buf begun : List ℕ) : Type 0 where
   pub fits : length begun ≤ line_limit → (len ≡ length begun) × (take len buf ≡ begun)
   pub over : line_limit < length begun → len ≡ line_limit + 1
 
+-- the number of a line that is begun: how many bytes it has, or 513
+abbrev pub counted : Cut → ℕ
+counted (Line n) = n
+counted Long = line_limit + 1
+
 -- how a line is cut off that ends with so many bytes counted
 unfoldable pub event_of : ℕ → Cut
 event_of len = cond (leb len line_limit) (Line len) Long

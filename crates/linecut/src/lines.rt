@@ -1,12 +1,10 @@
 // Cuts input into lines, byte by byte, so it does not matter how the input arrives. Of a line over 512 bytes only the fact is kept.
 ghost use Rattle.std.specs.Prelude.{◌≡◌, ◌≤◌, List, ℕ, length, take};
 ghost use Rattle.linecut.specs.Sizes.{line_limit};
-ghost use Rattle.linecut.specs.Input.{Holds, Fed, told, on_end, event_of, PushedAs, finished_event};
+ghost use Rattle.linecut.specs.Input.{Holds, Fed, told, on_end, event_of, counted, PushedAs, finished_event};
 
 use crate::sizes::LINE_LIMIT;
-
-// Stands for any number of bytes above the limit.
-const OVER: usize = LINE_LIMIT + 1;
+use buffer::moves::copy_from;
 
 // A line that was cut off. No Option or Result: both cases say something, and neither is a failure of the cutter.
 #[derive(Clone, Copy, PartialEq, Eq, Debug)]
@@ -17,70 +15,79 @@ pub enum Cut {
     Long,
 }
 
-// The line that is begun: how many bytes it has, or OVER, and the bytes.
-#[derive(Drop)]
-pub struct LineCutter {
-    pub len: usize,
-    pub bytes: [u8; LINE_LIMIT],
+// The line that is begun: what it is cut off as if it ends here. A field of its own, since a ghost field cannot stand beside a `&mut`.
+#[derive(Clone, Copy)]
+pub struct Begun {
+    pub cut: Cut,
+    ghost within: { cut ≡ event_of (counted cut) },
 }
 
-impl LineCutter {
-    pub fn new() -> LineCutter
-        ensures { result.len ≡ 0 }
+// The line that is begun, and the memory that holds its bytes.
+#[derive(Drop)]
+pub struct LineCutter<'a> {
+    pub begun: Begun,
+    pub bytes: &'a mut [u8; LINE_LIMIT],
+}
+
+impl<'a> LineCutter<'a> {
+    #[tactic(auto, unfolding(crate::specs::Input::event_of))]
+    pub fn new(bytes: &'a mut [u8; LINE_LIMIT]) -> LineCutter<'a>
+        ensures same_reference { result.bytes.ghost_name ≡ bytes.entry.ghost_name }
+        ensures bytes { result.bytes.now ≡ bytes.old }
+        ensures begun { counted result.begun.cut ≡ 0 }
     {
         LineCutter {
-            len: 0,
-            bytes: [0; LINE_LIMIT],
+            begun: Begun { cut: Cut::Line(0) },
+            bytes,
         }
     }
 
     // Feeds one byte. After a cut no line is begun, and the bytes of the line are still there until the next byte is fed.
     pub fn push(&mut self, byte: u8) -> Option<Cut>
-        ensures by_index { (begun : List ℕ) → Holds self.old.len self.old.bytes begun → Fed begun byte result self.new.len self.new.bytes }
-        ensures pushed_as { PushedAs self.old.len self.old.bytes byte result self.new.len self.new.bytes }
+        ensures by_index { (begun : List ℕ) → Holds (counted self.old.begun.cut) self.old.bytes.now begun → Fed begun byte result (counted self.new.begun.cut) self.new.bytes.now }
+        ensures pushed_as { PushedAs (counted self.old.begun.cut) self.old.bytes.now byte result (counted self.new.begun.cut) self.new.bytes.now }
+        ensures same_reference { self.new.bytes.ghost_name ≡ self.old.bytes.ghost_name }
     {
+        let cut = self.begun.cut;
         if byte == b'\n' {
-            let cut = ended(self.len);
-            self.len = 0;
+            self.begun = Begun { cut: Cut::Line(0) };
             return Some(cut);
         }
-        if self.len < LINE_LIMIT {
-            self.bytes[self.len] = byte;
-            self.len += 1;
+        // A line that is too long stays so.
+        let Cut::Line(len) = cut else {
+            return None;
+        };
+        if len < LINE_LIMIT {
+            // Not by an index: of an array that a field lends, a proof then knows no length.
+            copy_from(self.bytes, len, &[byte]);
+            self.begun = Begun {
+                cut: Cut::Line(len + 1),
+            };
         } else {
-            self.len = OVER;
+            self.begun = Begun { cut: Cut::Long };
         }
         None
     }
 
     // The end of the input: the last line, where its 0A is missing.
     pub fn finish(&self) -> Option<Cut>
-        ensures by_index { (buf begun : List ℕ) → Holds self.now.len buf begun → told result buf ≡ on_end begun }
-        ensures value { result ≡ finished_event self.now.len }
+        ensures by_index { (buf begun : List ℕ) → Holds (counted self.now.begun.cut) buf begun → told result buf ≡ on_end begun }
+        ensures value { result ≡ finished_event (counted self.now.begun.cut) }
     {
-        if self.len == 0 {
+        let Cut::Line(len) = self.begun.cut else {
+            return Some(Cut::Long);
+        };
+        if len == 0 {
             return None;
         }
-        Some(ended(self.len))
+        Some(Cut::Line(len))
     }
 
     // The bytes of a line that was cut off.
     pub fn line(&self, len: usize) -> &[u8]
         requires { len ≤ line_limit }
-        ensures { result.now ≡ take len self.now.bytes }
+        ensures { result.now ≡ take len self.now.bytes.now }
     {
         &self.bytes[..len]
-    }
-}
-
-// How a line ends that has `len` bytes counted.
-#[tactic(auto, unfolding(crate::specs::Input::event_of))]
-fn ended(len: usize) -> Cut
-    ensures { result ≡ event_of len }
-{
-    if len <= LINE_LIMIT {
-        Cut::Line(len)
-    } else {
-        Cut::Long
     }
 }

@@ -6,11 +6,20 @@ ghost use Rattle.rows.specs.Records.{records};
 ghost use Rattle.logline.specs.Sizes.{reply_limit, row_line_limit};
 ghost use Rattle.logline.specs.Spelling.{row_line, Wrote};
 ghost use Rattle.nivruska.specs.Replied.{replied};
+ghost use Rattle.session.specs.Sizes.{print_limit};
 ghost use Rattle.session.specs.Printed.{reply_line};
 
+use crate::sizes::PRINT_LIMIT;
 use logline::spell::{spell_reply, spell_row};
 use nivruska::Reply;
 use rows::sizes::ROW_SIZE;
+
+// How many bytes of the memory for it a line printed. Not beside that memory, where no ghost field can stand.
+#[derive(Clone, Copy)]
+pub struct Printed {
+    pub bytes: usize,
+    ghost short: { bytes ≤ print_limit },
+}
 
 // A line for each of the first n rows.
 pub(crate) fn print_rows(answer: &[u8], n: usize, out: &mut [u8]) -> usize
@@ -28,9 +37,11 @@ pub(crate) fn print_rows(answer: &[u8], n: usize, out: &mut [u8]) -> usize
 
 // The line of a reply, from `at` on.
 #[tactic(auto, unfolding(crate::specs::Printed::reply_line))]
-pub(crate) fn print_reply(reply: Reply, out: &mut [u8], at: usize) -> usize
-    requires { at + reply_limit ≤ length out.old }
-    ensures { Wrote out.old at (reply_line (replied reply)) out.new result }
+pub(crate) fn print_reply(reply: Reply, out: &mut [u8; PRINT_LIMIT], at: usize) -> Printed
+    requires { at + reply_limit ≤ print_limit }
+    ensures { Wrote out.old at (reply_line (replied reply)) out.new result.bytes }
 {
-    spell_reply(out, at, reply.number as u64, reply.first, reply.second)
+    Printed {
+        bytes: spell_reply(out, at, reply.number as u64, reply.first, reply.second),
+    }
 }

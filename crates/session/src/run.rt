@@ -1,82 +1,96 @@
 // One line of a field log: read, carried out, and what is printed for it.
-ghost use Rattle.std.specs.Prelude.{◌≡◌, ◌≤◌};
-ghost use Rattle.logline.specs.Meaning.{setup, addition, searching, misread, meaning};
-ghost use Rattle.session.specs.Sizes.{print_limit};
-ghost use Rattle.session.specs.Keeps.{Ran};
-
-use crate::print::{print_reply, print_rows};
+use crate::print::{Printed, print_reply, print_rows};
 use crate::sizes::{ANSWER_SIZE, PRINT_LIMIT, STORE_SIZE};
 use logline::command::Command;
 use logline::reader::parse;
 use nivruska::Reply;
 use rows::sizes::REFERENCE_SIZE;
 
-// The memory on which lines are carried out. What the last one printed is the first of `out`, `printed` bytes.
+// The memory on which lines are carried out. What the last one printed is the first of `out`.
 #[derive(Drop)]
-pub struct Machine {
-    pub store: [u8; STORE_SIZE],
-    pub answer: [u8; ANSWER_SIZE],
-    pub out: [u8; PRINT_LIMIT],
-    pub printed: usize,
-    ghost short: { printed ≤ print_limit },
+pub struct Machine<'a> {
+    pub store: &'a mut [u8; STORE_SIZE],
+    pub answer: &'a mut [u8; ANSWER_SIZE],
+    pub out: &'a mut [u8; PRINT_LIMIT],
+    pub printed: Printed,
 }
 
-impl Machine {
-    pub fn new(store: [u8; STORE_SIZE]) -> Machine
-        ensures { result.store ≡ store }
+impl<'a> Machine<'a> {
+    ghost use Rattle.std.specs.Prelude.{◌≡◌};
+    ghost use Rattle.logline.specs.Meaning.{setup, addition, searching, misread, meaning};
+    ghost use Rattle.session.specs.Stands.{SameMemory};
+    ghost use Rattle.session.specs.Keeps.{Ran};
+
+    pub fn new(
+        store: &'a mut [u8; STORE_SIZE],
+        answer: &'a mut [u8; ANSWER_SIZE],
+        out: &'a mut [u8; PRINT_LIMIT],
+    ) -> Machine<'a>
+        ensures same_store { result.store.ghost_name ≡ store.entry.ghost_name }
+        ensures same_answer { result.answer.ghost_name ≡ answer.entry.ghost_name }
+        ensures same_out { result.out.ghost_name ≡ out.entry.ghost_name }
+        ensures store { result.store.now ≡ store.old }
     {
         Machine {
             store,
-            answer: [0; ANSWER_SIZE],
-            out: [0; PRINT_LIMIT],
-            printed: 0,
+            answer,
+            out,
+            printed: Printed { bytes: 0 },
         }
     }
 
     // `M,L,τ`
     fn setup(&mut self, m: u64, l: u64, tau: u64)
-        ensures { Ran (setup m l tau) self.old.store self.new.store self.old.out self.new.out self.new.printed }
+        ensures ran { Ran (setup m l tau) self.old.store.now self.new.store.now self.old.out.now self.new.out.now self.new.printed.bytes }
+        ensures same_memory { SameMemory self.old self.new }
     {
-        let reply = Reply::from(nivruska::setup(&mut self.store, m, l, tau));
-        self.printed = print_reply(reply, &mut self.out, 0);
+        let reply = Reply::from(nivruska::setup(self.store, m, l, tau));
+        self.printed = print_reply(reply, self.out, 0);
     }
 
     // `+,value,reference,path`
     fn add(&mut self, value: u64, reference: &[u8; REFERENCE_SIZE], path: &[u8])
-        ensures { Ran (addition value reference.now path.now) self.old.store self.new.store self.old.out self.new.out self.new.printed }
+        ensures ran { Ran (addition value reference.now path.now) self.old.store.now self.new.store.now self.old.out.now self.new.out.now self.new.printed.bytes }
+        ensures same_memory { SameMemory self.old self.new }
     {
-        let reply = Reply::from(nivruska::add(&mut self.store, path, value, reference));
-        self.printed = print_reply(reply, &mut self.out, 0);
+        let reply = Reply::from(nivruska::add(self.store, path, value, reference));
+        self.printed = print_reply(reply, self.out, 0);
     }
 
     // `?,low,high,pattern`
     fn search(&mut self, low: u64, high: u64, pattern: &[u8])
-        ensures { Ran (searching low high pattern.now) self.old.store self.new.store self.old.out self.new.out self.new.printed }
+        ensures ran { Ran (searching low high pattern.now) self.old.store.now self.new.store.now self.old.out.now self.new.out.now self.new.printed.bytes }
+        ensures same_memory { SameMemory self.old self.new }
     {
-        match nivruska::search(&self.store, pattern, low, high, &mut self.answer) {
+        // Named before they are lent: of two fields lent at once the check has no rule.
+        let answer = &mut *self.answer;
+        let out = &mut *self.out;
+        match nivruska::search(self.store, pattern, low, high, answer) {
             Ok(found) => {
-                let at = print_rows(&self.answer, found.rows, &mut self.out);
-                self.printed = print_reply(Reply::from(found), &mut self.out, at);
+                let at = print_rows(answer, found.rows, out);
+                self.printed = print_reply(Reply::from(found), out, at);
             }
-            Err(refusal) => self.printed = print_reply(Reply::from(refusal), &mut self.out, 0),
+            Err(refusal) => self.printed = print_reply(Reply::from(refusal), out, 0),
         }
     }
 
     // Number 12: a line that cannot be read, or one over 512 bytes, of which the bytes are not there.
     pub fn misread(&mut self)
-        ensures { Ran misread self.old.store self.new.store self.old.out self.new.out self.new.printed }
+        ensures ran { Ran misread self.old.store.now self.new.store.now self.old.out.now self.new.out.now self.new.printed.bytes }
+        ensures same_memory { SameMemory self.old self.new }
     {
         let reply = Reply {
             number: 12,
             first: 0,
             second: 0,
         };
-        self.printed = print_reply(reply, &mut self.out, 0);
+        self.printed = print_reply(reply, self.out, 0);
     }
 
     // A line without its 0A.
     pub fn run(&mut self, line: &[u8])
-        ensures { Ran (meaning line.now) self.old.store self.new.store self.old.out self.new.out self.new.printed }
+        ensures ran { Ran (meaning line.now) self.old.store.now self.new.store.now self.old.out.now self.new.out.now self.new.printed.bytes }
+        ensures same_memory { SameMemory self.old self.new }
     {
         match parse(line) {
             Some(Command::Setup { m, l, tau }) => self.setup(m, l, tau),

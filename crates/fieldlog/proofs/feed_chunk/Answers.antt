@@ -17,7 +17,7 @@ loop-byte-preserved c =
     let l = c.loop-byte in
     let chunk = c.args.chunk.now in
     let one : take (l.byte-index + 1) chunk ≡ take l.byte-index chunk ++ (get_or chunk l.byte-index 0 ∷ []) = rw (add-one, take-suc chunk l.byte-index 0 (omega arith)) in
-    rw one (fed_more l.invariant c.feed_byte.ensures)
+    rw one (fed_more l.invariant c.feed_byte.ensures.fed)
 
 pub returns : goal.returns
 returns c =

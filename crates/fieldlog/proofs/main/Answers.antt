@@ -2,4 +2,4 @@
 use Rattle.fieldlog.proofs.main.Goals as goal
 
 pub run-requires : goal.run-requires
-run-requires c = rw (c.new-session.ensures.0, c.new-session.ensures.1)
+run-requires c = rw (c.new-session.ensures.begun, c.new-session.ensures.store)

@@ -8,4 +8,4 @@ fed_from : {s t after : State} → s ≡ t → FedSome s after → FedSome t aft
 fed_from {after = after} e f = subst (λ (s : State). FedSome s after) e f
 
 pub returns : goal.returns
-returns c = record { last = _; fed = fed_from c.requires c.feed_all.ensures; ends = c.feed_end.ensures }
+returns c = record { last = _; fed = fed_from c.requires c.feed_all.ensures; ends = c.feed_end.ensures.fed }

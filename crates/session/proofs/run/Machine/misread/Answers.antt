@@ -2,5 +2,5 @@
 use Rattle.session.proofs.Running.{ran_misread}
 use Rattle.session.proofs.run.Machine.misread.Goals as goal
 
-pub returns : goal.returns
-returns c = ran_misread c.print_reply-self.ensures
+pub returns-clause-ran : goal.returns-clause-ran
+returns-clause-ran c = ran_misread c.print_reply-self.ensures

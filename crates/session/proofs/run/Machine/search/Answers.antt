@@ -16,9 +16,9 @@ print_reply-self-requires c =
     let r = room_there c.in-Ok.ensures refl in
     omega (arith, r, c.search.auto.answer, c.print_rows-at.ensures.upper_bound, c.print_rows-at.auto.out)
 
-pub returns-in-Ok : goal.returns-in-Ok
-returns-in-Ok c = ran_accepted (omega arith) (omega arith) c.in-Ok.ensures refl c.print_rows-at.ensures.wrote (same_line c.from.ensures c.print_reply-self.ensures)
+pub returns-in-Ok-clause-ran : goal.returns-in-Ok-clause-ran
+returns-in-Ok-clause-ran c = ran_accepted (omega arith) (omega arith) c.in-Ok.ensures refl c.print_rows-at.ensures.wrote (same_line c.from.ensures c.print_reply-self.ensures)
 
-pub returns-in-Err : goal.returns-in-Err
-returns-in-Err c =
+pub returns-in-Err-clause-ran : goal.returns-in-Err-clause-ran
+returns-in-Err-clause-ran c =
     ran_refused (omega arith) (omega arith) c.in-Err.ensures (refused_some c.in-Err.refusal) (same_line c.from-in-Err.ensures c.print_reply-self-in-Err.ensures)
