@@ -3,17 +3,18 @@ use mathlib.Core.Path.{◌≡◌, refl, ap}
 use Rattle.std.specs.List.{list_all}
 use mathlib.Core.Bool.{Bool, true, false, cond, not, ◌&&◌}
 use mathlib.Core.List.{List, [], ◌∷◌}
-use Prim.Native.Nat.{ℕ, suc, ◌+◌, ◌-◌, ◌*◌, ◌^◌, ◌≤◌, ◌<◌}
+use Prim.Native.Nat.{ℕ, ◌+◌, ◌-◌, ◌*◌, ◌^◌, ◌≤◌, ◌<◌}
 use native.Mathlib.Omega.{arith}
 use native.Mathlib.Numerals.{add-one}
 use lib.ListN.{length, get_or, drop, drop_of_length-le}
 use lib.Seq.{drop-cons}
 use lib.Dec.{eqb, leb}
+use lib.Pointwise.{pointwise}
 use borrow.Author.Tests.{lt-ltb, le-ltb, eq-eqb, ne_eqb, eqb-true}
 use Rattle.buffer.specs.Lists.{all}
 use Rattle.buffer.proofs.Tests.{and_left}
 use Rattle.linefields.specs.Fields.{width, only, digit, number_from, plain, hex_digit, hex_value, is_reference}
-use Rattle.std.proofs.Common.{Some, None, unwrap_or, is_some}
+use Rattle.std.proofs.Common.{Some, None, nat_eq, unwrap_or, is_some}
 use Rattle.std.specs.Char.{is_ascii_digit}
 use Rattle.std.proofs.lemmas.Bool.Decides.{nat_tests}
 
@@ -27,21 +28,12 @@ pub width_miss : (b : ℕ) (s : List ℕ) → (b ≡ 44 → ⊥) → width (b �
 unfolding width
 width_miss b s e = rw (ne_eqb b 44 e, add-one)
 
-pub width_within : (s : List ℕ) → width s ≤ length s
-unfolding width
-width_within [] = omega arith
-width_within (b ∷ s) = go (eqb b 44) (width_within s)
-  where
-    go : (t : Bool) → width s ≤ length s → cond t 0 (suc (width s)) ≤ suc (length s)
-    go true h = omega arith
-    go false h = omega arith
-
 -- ---- one byte
 
-pub only_is : (b : ℕ) (f : List ℕ) → only b f ≡ (eqb (length f) 1 && eqb (get_or f 0 0) b)
+pub only_is : (b : ℕ) (f : List ℕ) → pointwise nat_eq f (b ∷ []) ≡ only b f
 unfolding only
 only_is b [] = refl
-only_is b (x ∷ []) = refl
+only_is b (x ∷ []) = grind (arith, nat_tests)
 only_is b (x ∷ y ∷ f) = grind (arith, nat_tests)
 
 -- ---- numbers

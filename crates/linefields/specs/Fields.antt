@@ -1,6 +1,6 @@
 -- The fields of a line of `fieldlog`: where one ends, what a number is, what a reference is (document 01, `fieldlog`).
 -- Assumes nothing: these are definitions.
-use Rattle.std.specs.Prelude.{ℕ, suc, ◌+◌, ◌-◌, ◌*◌, ◌^◌, ◌≤◌, ◌≡◌, List, [], ◌∷◌, Bool, true, false, cond, not, ◌&&◌, ◌||◌, Option, Some, None, length, drop, ltb, leb, eqb}
+use Rattle.std.specs.Prelude.{ℕ, suc, ◌+◌, ◌-◌, ◌*◌, ◌^◌, List, [], ◌∷◌, Bool, true, false, cond, not, ◌&&◌, ◌||◌, Option, Some, None, length, ltb, leb, eqb}
 use Rattle.linefields.specs.Sizes.{reference_digits}
 use Rattle.buffer.specs.Lists.{all}
 
@@ -8,11 +8,6 @@ use Rattle.buffer.specs.Lists.{all}
 unfoldable pub width : List ℕ → ℕ
 width [] = 0
 width (b ∷ s) = cond (eqb b 44) 0 (suc (width s))
-
--- e is where the field that begins at `from` ends: at the next comma or at the end of the line
-pub record Ends (s : List ℕ) (from e : ℕ) : Type 0 where
-  pub is : e ≡ from + width (drop from s)
-  pub within : e ≤ length s
 
 -- the one byte b
 unfoldable pub only : ℕ → List ℕ → Bool

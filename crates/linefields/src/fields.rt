@@ -1,29 +1,17 @@
-// The fields of a line: where one ends, numbers, references. Each function answers for a whole field.
-ghost use Rattle.std.specs.Prelude.{◌≡◌, ◌+◌, ◌*◌, ◌≤◌, ◌<◌, length, Some, None, cond};
+// The fields of a line: numbers, references. Each function answers for a whole field.
+ghost use Rattle.std.specs.Prelude.{◌≡◌, ◌+◌, ◌*◌, Some, None, cond};
 ghost use Rattle.linefields.specs.Sizes.{reference_digits};
-ghost use Rattle.linefields.specs.Fields.{Ends, only, number_from, plain, number_of, hex_digit, hex_value, is_reference, unhex};
+ghost use Rattle.linefields.specs.Fields.{only, number_from, plain, number_of, hex_digit, hex_value, is_reference, unhex};
 
 use crate::sizes::REFERENCE_DIGITS;
 use buffer::sizes::REFERENCE_SIZE;
 
-// Where the field that begins at `from` ends.
-pub fn field_end(s: &[u8], from: usize) -> usize
-    requires { from ≤ length s.now }
-    ensures { Ends s.now from result }
-{
-    let rest = &s[from..];
-    from + rest.iter().position(|b| *b == b',').unwrap_or(rest.len())
-}
-
 // Is a field the one byte `b`?
-#[tactic(auto, using(crate::proofs::Scan::only_is, std::proofs::lemmas::Bool::Decides::nat_tests))]
+#[tactic(auto, using(crate::proofs::Scan::only_is))]
 pub fn is_only(f: &[u8], b: u8) -> bool
     ensures { result ≡ only b f.now }
 {
-    match f {
-        [x] => *x == b,
-        _ => false,
-    }
+    f == [b].as_slice()
 }
 
 // The number that digits spell. Not by std's `parse`: that takes a `+` before them.
@@ -89,11 +77,7 @@ fn hex_byte(high: u8, low: u8) -> u8
 pub fn unhex(digits: &[u8; REFERENCE_DIGITS]) -> [u8; REFERENCE_SIZE]
     ensures { result ≡ unhex digits.now }
 {
-    let mut out = [0; REFERENCE_SIZE];
-    for i in 0..REFERENCE_SIZE {
-        out[i] = hex_byte(digits[2 * i], digits[2 * i + 1]);
-    }
-    out
+    std::array::from_fn(|i| hex_byte(digits[2 * i], digits[2 * i + 1]))
 }
 
 // The reference that a field spells.

@@ -1,4 +1,4 @@
-// The fields of a line of `fieldlog`: where one ends, numbers, references. Knows nothing of commands.
+// The fields of a line of `fieldlog`: numbers, references. Knows nothing of commands.
 #![tactic(auto)]
 
 pub mod fields;

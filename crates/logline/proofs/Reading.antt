@@ -3,29 +3,25 @@ use mathlib.Core.Path.{◌≡◌, refl, sym}
 use Rattle.std.proofs.Common.{Option, Some, None}
 use mathlib.Core.Bool.{Bool, true, false, cond}
 use mathlib.Core.List.{List}
-use Prim.Native.Nat.{ℕ, ◌+◌, ◌≤◌, ◌<◌}
+use Prim.Native.Nat.{ℕ, ◌+◌, ◌-◌, ◌≤◌, ◌<◌}
 use native.Mathlib.Omega.{arith}
 use lib.ListN.{length, take, drop}
-use lib.Dec.{ltb}
 use borrow.Author.Tests.{lt-ltb, le-ltb}
-use Rattle.linefields.specs.Fields.{width, Ends}
-use Rattle.logline.specs.Meaning.{Meaning, with_field, meaning, line_of, Says}
-use Rattle.logline.specs.Meaning.Meaning.{misread}
+use Rattle.buffer.proofs.Lists.{tail_part}
+use Rattle.linefields.specs.Fields.{width}
+use Rattle.logline.specs.Meaning.{Meaning, with_field, with_number, meaning, line_of, Says}
+use Rattle.logline.specs.Meaning.Meaning.{misread, addition, searching}
 use Rattle.logline.specs.declared.command.Command.{Command}
 
-module _ (s : List ℕ) (e : ℕ) (ends : Ends s 0 e) where
-  pub field_there : (e ≡ length s → ⊥) → (k : List ℕ → List ℕ → Meaning) → with_field s k ≡ k (take e s) (drop (e + 1) s)
+module _ (s : List ℕ) where
+  -- n is where what follows the comma begins
+  pub field_there : (e n : ℕ) → width s ≡ e → e < length s → n ≡ e + 1 → (k : List ℕ → List ℕ → Meaning) → with_field s k ≡ k (take e s) (take (length s - n) (drop n s))
   unfolding with_field
-  field_there ne k =
-      let w : width s ≡ e = omega arith in
-      let t : ltb e (length s) ≡ true = lt-ltb e (length s) (omega arith) in
-      rw (w, t)
+  field_there e n w h next k = rw (w, lt-ltb e (length s) h, next, tail_part (e + 1) s)
 
-  pub field_lost : e ≡ length s → (k : List ℕ → List ℕ → Meaning) → with_field s k ≡ misread
+  pub field_lost : width s ≡ length s → (k : List ℕ → List ℕ → Meaning) → with_field s k ≡ misread
   unfolding with_field
-  field_lost l k =
-      let t : ltb (width s) (length s) ≡ false = le-ltb (width s) (length s) (omega arith) in
-      rw t
+  field_lost w k = rw (w, le-ltb (length s) (length s) (omega arith))
 
 -- nothing was read, where that is what the line means
 pub misreads : {m : Meaning} {r : Option Command} → r ≡ None → m ≡ misread → Says m r
@@ -41,6 +37,16 @@ a_reference true x r k e =
     let f : r ≡ x = cc in
     rw f
 a_reference false x r k e = cc
+
+-- the last number, and what remains for a path or a pattern
+pub last_number : (o r : Option ℕ) (k : ℕ → Meaning) → r ≡ o → with_number o k ≡ with_number r k
+last_number o r k e = rw e
+
+pub added : (value : ℕ) (reference p path : List ℕ) → p ≡ path → addition value reference p ≡ addition value reference path
+added value reference p path e = rw e
+
+pub sought : (low high : ℕ) (p pattern : List ℕ) → p ≡ pattern → searching low high p ≡ searching low high pattern
+sought low high p pattern e = rw e
 
 -- the test on a line's length
 pub longer : (s : List ℕ) → 512 < length s → meaning s ≡ misread

@@ -1,47 +1,42 @@
-// A reader: a line, and the position from which on it is to be read. A path or pattern is all that remains, commas included. Past the end
-// there is an empty line.
+// A reader: what remains of a line. A path or pattern is all that remains, commas included.
 ghost use Rattle.std.specs.Prelude.{◌≡◌, drop};
 ghost use Rattle.logline.specs.Meaning.{meaning, addition_of, search_of, setup_of, Says};
 ghost use Rattle.logline.specs.Reading.{rest_of, FieldRead, NumberRead};
 
 use crate::command::Command;
 use linecut::sizes::LINE_LIMIT;
-use linefields::fields::{decimal, field_end, is_only, reference};
+use linefields::fields::{decimal, is_only, reference};
 
 #[derive(Clone, Copy)]
 pub struct Line<'a> {
-    pub bytes: &'a [u8],
-    pub at: usize,
+    pub rest: &'a [u8],
 }
 
 impl<'a> Line<'a> {
+    // The line from a position on; past the end there is an empty line.
     pub fn new(bytes: &'a [u8], at: usize) -> Line<'a>
-        ensures { (result.bytes ≡ bytes.entry) × (result.at ≡ at) }
+        ensures { result.rest.now ≡ drop at bytes.now }
     {
-        Line { bytes, at }
+        Line {
+            rest: bytes.get(at..).unwrap_or(&[]),
+        }
     }
 
-    // All that remains from the position on.
+    // All that remains.
     pub fn rest(self) -> &'a [u8]
-        ensures { result.now ≡ drop self.entry.at self.entry.bytes.now }
+        ensures { result ≡ self.entry.rest }
     {
-        if self.bytes.len() < self.at {
-            return &[];
-        }
-        &self.bytes[self.at..]
+        self.rest
     }
 
     // The field up to the next comma; there is none without a comma.
     fn field(&mut self) -> Option<&'a [u8]>
         ensures { FieldRead (rest_of self.old) result (rest_of self.new) }
     {
-        let rest = self.rest();
-        let end = field_end(rest, 0);
-        if end == rest.len() {
-            return None;
-        }
-        self.at += end + 1;
-        Some(&rest[..end])
+        let end = self.rest.iter().position(|b| *b == b',')?;
+        let field = &self.rest[..end];
+        self.rest = &self.rest[end + 1..];
+        Some(field)
     }
 
     // A decimal field.
@@ -60,7 +55,7 @@ impl<'a> Line<'a> {
         Some(Command::Add {
             value,
             reference,
-            path: self.rest(),
+            path: self.rest,
         })
     }
 
@@ -73,7 +68,7 @@ impl<'a> Line<'a> {
         Some(Command::Search {
             low,
             high,
-            pattern: self.rest(),
+            pattern: self.rest,
         })
     }
 
@@ -83,15 +78,15 @@ impl<'a> Line<'a> {
     {
         let m = decimal(first)?;
         let l = self.number()?;
-        let tau = decimal(self.rest())?;
+        let tau = decimal(self.rest)?;
         Some(Command::Setup { m, l, tau })
     }
 
-    // What the line says from the position on; None is misread.
+    // What the line says; None is misread.
     pub fn read(mut self) -> Option<Command<'a>>
-        ensures { Says (meaning (drop self.entry.at self.entry.bytes.now)) result }
+        ensures { Says (meaning (rest_of self.entry)) result }
     {
-        if LINE_LIMIT < self.rest().len() {
+        if LINE_LIMIT < self.rest.len() {
             return None;
         }
         let first = self.field()?;

@@ -29,11 +29,11 @@ fn digit(b: u8) -> u8
 fn decode(text: &[u8], out: &mut [u8]) -> usize
     ensures { result ≤ length out.new }
 {
-    let n = out.len().min(text.len() / 2);
-    for i in 0..n {
-        out[i] = digit(text[2 * i]) * 16 + digit(text[2 * i + 1]);
+    let (pairs, _) = text.as_chunks::<2>();
+    for (byte, [high, low]) in out.iter_mut().zip(pairs) {
+        *byte = digit(*high) * 16 + digit(*low);
     }
-    n
+    out.len().min(pairs.len())
 }
 
 fn number(letter: u8, a: &[u8], b: &[u8]) -> u64 {

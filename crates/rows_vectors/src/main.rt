@@ -11,6 +11,13 @@ use rows::sizes::{LENGTH_AT, PATH_AT, RECORD_SIZE, REFERENCE_AT, ROW_SIZE};
 use std::cmp::Ordering;
 use std::io;
 
+// The bytes of a record, which begins with a row.
+#[derive(Clone, Copy)]
+struct Width {
+    bytes: usize,
+    ghost row: { row_size ≤ bytes },
+}
+
 // The last byte of a reference.
 const MARK_AT: usize = LENGTH_AT - 1;
 
@@ -91,11 +98,9 @@ fn generate(bytes: &mut [u8], random: Random)
     }
 }
 
-fn fill(s: &mut [u8], width: usize)
-    requires { row_size ≤ width }
-{
+fn fill(s: &mut [u8], width: Width) {
     let mut random = Random { x: 1 };
-    for record in s.chunks_exact_mut(width) {
+    for record in s.chunks_exact_mut(width.bytes) {
         random = random.next();
         generate(record, random);
     }
@@ -121,13 +126,13 @@ fn print_record(console: &mut Console, bytes: &[u8])
 }
 
 // Three bytes, the records behind them, and the last byte.
-fn print_case(console: &mut Console, s: &[u8], width: usize)
-    requires { (row_size ≤ width) × (4 ≤ length s.now) }
+fn print_case(console: &mut Console, s: &[u8], width: Width)
+    requires { 4 ≤ length s.now }
 {
     let end = s.len() - 1;
     console.print_hex(&s[..3]);
     console.print(b"\n");
-    for record in s[3..end].chunks_exact(width) {
+    for record in s[3..end].chunks_exact(width.bytes) {
         print_record(console, record);
     }
     console.print_hex(&s[end..]);
@@ -135,24 +140,24 @@ fn print_case(console: &mut Console, s: &[u8], width: usize)
 }
 
 // Fills the lent bytes with n records behind three bytes and before one, sorts them and prints all.
-fn sort_in(console: &mut Console, s: &mut [u8], n: usize, width: usize)
-    requires { (row_size ≤ width) × (4 + n * width ≤ length s.old) }
+fn sort_in(console: &mut Console, s: &mut [u8], n: usize, width: Width)
+    requires { 4 + n * width.bytes ≤ length s.old }
 {
-    let end = 3 + n * width;
+    let end = 3 + n * width.bytes;
     fill(&mut s[3..end], width);
     copy_from(s, 0, &[1, 2, 3]);
     s[end] = 4;
-    rows::sort::sort(s, 3, n, width);
+    rows::sort::sort(s, 3, n, width.bytes);
     print_case(console, &s[..end + 1], width);
 }
 
-fn sort_case(console: &mut Console, n: usize, width: usize)
-    requires { (row_size ≤ width) × (4 + n * width ≤ 229004) }
+fn sort_case(console: &mut Console, n: usize, width: Width)
+    requires { 4 + n * width.bytes ≤ 229004 }
 {
     console.print(b"sort ");
     console.print_decimal(n as u64);
     console.print(b" of ");
-    console.print_decimal(width as u64);
+    console.print_decimal(width.bytes as u64);
     console.print(b"\n");
     let mut s = [0u8; 4 + 1000 * ROW_SIZE];
     sort_in(console, &mut s, n, width);
@@ -210,12 +215,11 @@ fn main(rt: HostRuntime) -> io::Result<()> {
         Entry::new(5, b"/a", 2),
         Entry::new(5, b"/a", 2),
     );
-    sort_case(&mut console, 0, ROW_SIZE);
-    sort_case(&mut console, 1, ROW_SIZE);
-    sort_case(&mut console, 2, ROW_SIZE);
-    sort_case(&mut console, 3, ROW_SIZE);
-    sort_case(&mut console, 100, ROW_SIZE);
-    sort_case(&mut console, 1000, ROW_SIZE);
-    sort_case(&mut console, 100, RECORD_SIZE);
+    let row = Width { bytes: ROW_SIZE };
+    for n in [0, 1, 2, 3, 100, 1000] {
+        sort_case(&mut console, n, row);
+    }
+    let record = Width { bytes: RECORD_SIZE };
+    sort_case(&mut console, 100, record);
     console.finish()
 }

@@ -3,7 +3,7 @@
 // and what they print come from tools/oracle/trie_build.py.
 #![tactic(auto)]
 
-ghost use Rattle.std.specs.Prelude.{◌≡◌, ◌<◌, ◌≤◌, true, length};
+ghost use Rattle.std.specs.Prelude.{◌≡◌, ◌<◌, ◌≤◌, true, length, IfSome};
 ghost use Rattle.buffer.specs.Lists.{all};
 ghost use Rattle.entries.specs.Slots.{slot_size, short_path};
 ghost use Rattle.trie_read.specs.Shape.{above_of};
@@ -72,38 +72,35 @@ fn level(
     console.print(b"\n");
 }
 
-// The first set of the input; returns what is behind it, nothing where it is not whole.
-fn set<'a>(console: &mut Console, s: &mut [u8; MEMORY], input: &'a [u8]) -> &'a [u8]
-    requires { 0 < length input.now }
-    ensures { length result.now < length input.now }
+// The first set of the input; returns what is behind it. There is none where the input ends, or within a set.
+fn set<'a>(console: &mut Console, s: &mut [u8; MEMORY], input: &'a [u8]) -> Option<&'a [u8]>
+    ensures { IfSome result (λ behind. length behind.now < length input.now) }
 {
-    let Some(([tau, above, n], rest)) = input.split_first_chunk::<3>() else {
-        return &input[input.len()..];
-    };
+    let ([tau, above, n], rest) = input.split_first_chunk::<3>()?;
     let above = match above {
         0 => None,
         1 => Some(Dimension::Value),
         2 => Some(Dimension::Path),
-        _ => return &input[input.len()..],
+        _ => return None,
     };
     let n = usize::from(*n);
-    if n > MOST || rest.len() < n * ROW_SIZE {
-        return &input[input.len()..];
+    if n > MOST {
+        return None;
     }
-    let (rows, rest) = rest.split_at(n * ROW_SIZE);
+    let (rows, rest) = rest.split_at_checked(n * ROW_SIZE)?;
     for (k, row) in rows.as_chunks::<ROW_SIZE>().0.iter().enumerate() {
         let at = SLOTS + k * SLOT_SIZE;
         lay(&mut s[at..at + SLOT_SIZE], row);
     }
     level(console, s, n, usize::from(*tau), above);
-    rest
+    Some(rest)
 }
 
 fn run(console: &mut Console, s: &mut [u8; MEMORY], input: &[u8]) {
     let mut rest = input;
     // No `for`: the sets are of unlike length.
-    while !rest.is_empty() {
-        rest = set(console, s, rest);
+    while let Some(behind) = set(console, s, rest) {
+        rest = behind;
     }
 }
 

@@ -1,23 +1,17 @@
--- After i turns the first i bytes are those of the first 2 i digits.
+-- Each byte is that of its two digits.
 use native.Mathlib.Omega.{arith}
-use Prim.Native.Nat.{◌*◌}
-use mathlib.Core.Path.{refl}
-use lib.ListN.{length-set}
-use lib.Seq.{take_all}
-use Rattle.linefields.specs.Fields.{unhex}
-use Rattle.linefields.proofs.Hex.{unhex_turn}
+use native.Mathlib.Nat.{zero-add}
+use Prim.Native.Nat.{ℕ, ◌+◌, ◌*◌}
+use lib.ListN.{get_or}
+use Rattle.std.proofs.Common.{rules}
+use Rattle.linefields.specs.Fields.{hex_value}
+use Rattle.linefields.proofs.Hex.{unhex_each, made}
 use Rattle.linefields.proofs.fields.unhex.Goals as goal
-
-pub loop-i-init : goal.loop-i-init
-unfolding unhex
-loop-i-init c = record { length_is = refl; spells = refl }
-
-pub loop-i-preserved : goal.loop-i-preserved
-loop-i-preserved c =
-    let l = c.loop-i in
-    record { length_is = simp length-set (omega arith); spells = unhex_turn _ l.out l.i _ l.invariant.spells (omega arith) (omega arith) c.hex_byte.ensures }
 
 pub returns : goal.returns
 returns c =
-    let l = c.loop-i in
-    rw (take_all l.i l.out (omega arith), take_all (2 * l.i) c.args.digits.now (omega arith)) at l.invariant.spells
+    let s = c.args.digits.now in
+    let out = c.from_fn.ensures.items in
+    let byte : ℕ → ℕ = λ i. hex_value (get_or s (2 * i) 0) * 16 + hex_value (get_or s (2 * i + 1) 0) in
+    unhex_each s c.from_fn.result (omega (arith, out.long, c.told-digits))
+    (λ i h. rw zero-add at (made _ _ byte (λ i y q k. search rules) c.from_fn.result 0 20 i out.each (omega (arith, out.long))))
