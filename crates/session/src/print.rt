@@ -42,6 +42,6 @@ pub(crate) fn print_reply(reply: Reply, out: &mut [u8; PRINT_LIMIT], at: usize) 
     ensures { Wrote out.old at (reply_line (replied reply)) out.new result.bytes }
 {
     Printed {
-        bytes: spell_reply(out, at, reply.number as u64, reply.first, reply.second),
+        bytes: spell_reply(out, at, u64::from(reply.number), reply.first, reply.second),
     }
 }

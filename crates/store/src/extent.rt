@@ -6,7 +6,7 @@ ghost use Rattle.trie_theory.specs.Sound.{Sound};
 ghost use Rattle.trie_theory.specs.Encode.{Regular, encode};
 
 use buffer::numbers::get32;
-use trie_read::sizes::HEAD_SIZE;
+use trie_read::sizes::{BODY_LENGTH_AT, HEAD_SIZE};
 
 // The end of the root, or 0 where it has none within the region.
 pub fn trie_length(t: &[u8]) -> usize
@@ -16,10 +16,10 @@ pub fn trie_length(t: &[u8]) -> usize
     if t.len() < HEAD_SIZE {
         return 0;
     }
-    let body = get32(t, 3) as usize;
+    let body = get32(t, BODY_LENGTH_AT) as usize;
     if body == 0 {
         return 0;
     }
-    let end = HEAD_SIZE + t[1] as usize + t[2] as usize + body;
+    let end = HEAD_SIZE + usize::from(t[1]) + usize::from(t[2]) + body;
     if end <= t.len() { end } else { 0 }
 }

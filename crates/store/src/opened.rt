@@ -39,7 +39,6 @@ impl<'a> Store<'a> {
         requires { k ≤ self.now.front.l }
         ensures { TrieIs self.now.bytes.now self.now.front.m self.now.front.l k result.now }
     {
-        let place = trie_range(self.bytes, self.front, k);
-        &self.bytes[place.start..place.end]
+        &self.bytes[trie_range(self.bytes, self.front, k)]
     }
 }

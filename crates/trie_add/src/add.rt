@@ -10,7 +10,7 @@ use trie_read::kind::{Dimension, Kind};
 use trie_read::lookup::agrees;
 use trie_read::node_place::NodePlace;
 use trie_read::place::{Place, find};
-use trie_read::sizes::HEAD_SIZE;
+use trie_read::sizes::{BODY_LENGTH_AT, HEAD_SIZE};
 use trie_write::insert::{NewLeaf, NewSuffix, insert};
 use trie_write::key::Key;
 
@@ -21,7 +21,7 @@ fn add_suffix(s: &mut [u8], node: &NodePlace, used: usize, key: &Key<'_>) -> usi
     ensures { (depth : ℕ) → Grown s.old node.now used depth (spelled key.now) s.new result }
 {
     let n = insert::<NewSuffix>(s, node.next, used, key);
-    put32(s, node.at + 3, (node.next - node.body + n) as u32); // the suffix counts
+    put32(s, node.at + BODY_LENGTH_AT, (node.next - node.body + n) as u32); // the suffix counts
     n
 }
 
@@ -46,7 +46,7 @@ fn extend_body(s: &mut [u8], node: &NodePlace, used: usize, depth: usize, key: &
         depth - 1,
         key,
     );
-    put32(s, node.at + 3, (node.next - node.body + n) as u32);
+    put32(s, node.at + BODY_LENGTH_AT, (node.next - node.body + n) as u32);
     n
 }
 

@@ -17,13 +17,10 @@ use buffer::numbers::put32;
 use entries::{SLOT_SIZE, Slot};
 use rows::sizes::{LENGTH_AT, PATH_AT, REFERENCE_AT, REFERENCE_SIZE, VALUE_SIZE};
 use trie_read::kind::{Dimension, Kind};
-use trie_read::sizes::{HEAD_SIZE, SUFFIX_SIZE};
+use trie_read::sizes::{BODY_LENGTH_AT, HEAD_SIZE, SUFFIX_SIZE};
 use trie_sets::partition::partition;
 use trie_sets::positions::{Shape, Shared, split};
 use trie_write::write::{put_front, put_suffix};
-
-// Where a node has the length of its body.
-const BODY_LENGTH_AT: usize = 3;
 
 // How many slots, from the first on, have its byte in a column.
 fn run(slots: &[u8], column: usize) -> usize

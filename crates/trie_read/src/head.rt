@@ -6,7 +6,8 @@ ghost use Rattle.trie_read.specs.Kinds.{kind_of_byte};
 ghost use Rattle.trie_read.specs.Heads.{head_of, head_in, head_told, InBytes, Stands};
 
 use crate::kind::Kind;
-use crate::sizes::HEAD_SIZE;
+use crate::sizes::{BODY_LENGTH_AT, HEAD_SIZE};
+use buffer::numbers::get32;
 
 // No node, or no suffix, begins here.
 #[derive(Clone, Copy, Debug, PartialEq, Eq)]
@@ -45,7 +46,7 @@ pub fn read_head(t: &[u8]) -> Result<Option<Node<'_>>, Malformed>
     }
     let path = HEAD_SIZE + usize::from(t[1]);
     let body = path + usize::from(t[2]);
-    let next = body + buffer::numbers::get32(t, 3) as usize;
+    let next = body + get32(t, BODY_LENGTH_AT) as usize;
     if t.len() < next {
         return Err(Malformed);
     }
@@ -64,8 +65,5 @@ pub fn first_node(t: &[u8]) -> Option<Node<'_>>
     ensures inside { IfSome result (λ n. Stands t.now n) }
     ensures value { (f : Forest) → Regular 2 f → t.now ≡ encode f → option_map head_in result ≡ head_of f }
 {
-    match read_head(t) {
-        Ok(node) => node,
-        Err(Malformed) => None,
-    }
+    read_head(t).unwrap_or(None)
 }

@@ -41,10 +41,7 @@ pub fn first_suffix(b: &[u8]) -> Option<Suffix<'_>>
     ensures within { IfSome result (λ x. SuffixStands b.now x) }
     ensures value { (ts : List Key) → All Fixed ts → b.now ≡ suffixes_bytes ts → option_map tail_in result ≡ tail_of ts }
 {
-    match read_suffix(b) {
-        Ok(suffix) => suffix,
-        Err(Malformed) => None,
-    }
+    read_suffix(b).unwrap_or(None)
 }
 
 // Is a key with these bytes left one of the suffixes?

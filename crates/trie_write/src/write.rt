@@ -14,7 +14,7 @@ use crate::key::Key;
 use buffer::moves::copy_from;
 use buffer::numbers::put32;
 use trie_read::kind::Kind;
-use trie_read::sizes::{HEAD_SIZE, SUFFIX_SIZE};
+use trie_read::sizes::{BODY_LENGTH_AT, HEAD_SIZE, SUFFIX_SIZE};
 
 // The body of a new leaf: a suffix without strings.
 const LEAF_BODY: u32 = SUFFIX_SIZE as u32;
@@ -28,7 +28,7 @@ pub fn put_front(s: &mut [u8], at: usize, kind: Kind, value: &[u8], path: &[u8],
     s[at] = u8::from(kind);
     s[at + 1] = n as u8;
     s[at + 2] = path.len() as u8;
-    put32(s, at + 3, size);
+    put32(s, at + BODY_LENGTH_AT, size);
     copy_from(s, at + HEAD_SIZE, value);
     copy_from(s, at + HEAD_SIZE + n, path);
 }
