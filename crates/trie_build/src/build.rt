@@ -120,7 +120,7 @@ fn build(
     partition(slots, scratch, column);
     let mut rest = slots;
     let mut end = body;
-    // No `for`: the parts are of unlike length, and each is found from what is left.
+    // No `for` over std's `chunk_by_mut`: the invariant has to carry what its closure computes from turn to turn, and that proof did not close.
     while !rest.is_empty() {
         let size = run(rest, column) * SLOT_SIZE;
         let (part, others) = rest.split_at_mut(size);
