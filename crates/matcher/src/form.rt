@@ -85,16 +85,7 @@ fn is_pattern_label(l: &[u8]) -> bool
 fn are_pattern_labels(pattern: &[u8]) -> bool
     ensures { result ≡ all pattern_label (labels_of pattern.now) }
 {
-    let mut labels = Labels::new(pattern);
-    // No `for`: a turn takes a label.
-    while !labels.is_empty() {
-        let (label, others) = labels.split_first();
-        if !is_pattern_label(label) {
-            return false;
-        }
-        labels = others;
-    }
-    true
+    Labels::new(pattern).all(is_pattern_label)
 }
 
 // Is this a pattern, of any length?
