@@ -1,8 +1,9 @@
 -- Laws of small words about lists: what holds of every element, what some element passes, what is picked, equal lists, parts.
 use Prim.Native.Nat.{ℕ, zero, suc, ◌-◌, ◌≤◌}
+use Rattle.std.specs.List.{list_all}
 use Rattle.buffer.proofs.Tests.{and_left, and_right, and_both}
 use mathlib.Core.Path.{◌≡◌, refl, sym, ap, ap₂, ◌∙◌}
-use mathlib.Core.Bool.{Bool, true, false, cond, ◌||◌, false≢true}
+use mathlib.Core.Bool.{Bool, true, false, cond, ◌&&◌, ◌||◌, false≢true}
 use mathlib.Core.List.{List, [], ◌∷◌, ◌++◌, map, append_assoc, append-nil}
 use native.Mathlib.Omega.{arith}
 use lib.ListN.{length, take, drop, replicate, length-append, length-drop, length-replicate, take-append-drop}
@@ -14,6 +15,11 @@ use Rattle.buffer.specs.Lists.{all, All, nil, cons, any, pick, flat, padded, sam
 pub no_items : {A : Type 0} (l : List A) → length l ≡ 0 → l ≡ []
 no_items [] e = refl
 no_items (x ∷ l) e = let z : ◌≡◌ {A = ℕ} 0 1 = cc in absurd (omega arith)
+
+-- std's word for the same
+pub list_all_is : {A : Type 0} (t : A → Bool) (xs : List A) → list_all t xs ≡ all t xs
+list_all_is t [] = refl
+list_all_is t (x ∷ xs) = ap (◌&&◌ (t x)) (list_all_is t xs)
 
 pub all_head : {A : Type 0} {P : A → Type 0} {x : A} {xs : List A} → All P (x ∷ xs) → P x
 all_head (cons h a) = h

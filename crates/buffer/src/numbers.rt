@@ -1,5 +1,4 @@
-// Numbers in a slice, highest byte first. Of two widths, and not generic: each is one call of std on an array of its own length, over a width it
-// would be a loop, which is no plainer.
+// Numbers in a slice, highest byte first. Of two widths, and not generic: four functions of one line are shorter than a trait and its two impls.
 ghost use Rattle.std.specs.Prelude.{◌≡◌, ◌+◌, ◌≤◌, length};
 ghost use Rattle.buffer.specs.Splice.{splice, region};
 ghost use Rattle.buffer.specs.Numbers.{bytes_of, number};

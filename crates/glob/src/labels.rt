@@ -1,5 +1,6 @@
 // Labels that stand one behind the other, as in a path or a pattern.
 ghost use Rattle.std.specs.Prelude.{◌≡◌, false, ◌-◌, ◌≤◌, length, take, drop, IfSome};
+ghost use Rattle.std.specs.Iterator.{YieldsFirstRef, item_count};
 ghost use Rattle.buffer.specs.Lists.{none};
 ghost use Rattle.glob.specs.Labels.{labels_of, Begun, FirstLabel};
 ghost use Rattle.glob.specs.Fit.{first, fits_label, fit_labels};
@@ -66,5 +67,23 @@ impl<'a> Labels<'a> {
             return Some(label);
         }
         None
+    }
+}
+
+// The labels one after the other.
+impl<'a> Iterator for Labels<'a> {
+    type Item = &'a [u8];
+
+    ghost next_gives = { YieldsFirstRef (λ s. labels_of s.bytes.now) };
+
+    ghost remaining = { item_count (λ s. labels_of s.bytes.now) };
+
+    fn next(&mut self) -> Option<&'a [u8]> {
+        if self.is_empty() {
+            return None;
+        }
+        let (label, others) = self.split_first();
+        *self = others;
+        Some(label)
     }
 }

@@ -1,18 +1,11 @@
 // Where a label begins or ends, and how many there are.
-ghost use Rattle.std.specs.Prelude.{◌≡◌, ◌+◌, ◌-◌, ◌≤◌, length, drop, get_or, ◌==◌};
+ghost use Rattle.std.specs.Prelude.{◌≡◌, ◌+◌, ◌-◌, ◌≤◌, length, drop, ◌==◌};
 ghost use Rattle.std.specs.List.{position_or_len};
 ghost use Rattle.glob.specs.Bytes.{slash};
 ghost use Rattle.glob.specs.Labels.{up_to_slash, labels_of, deep};
 ghost use Rattle.glob.specs.Inner.{LastLabel};
 
 use crate::bytes::{SLASH, STAR};
-
-// The byte at i, and 0 past the end.
-pub fn byte_at(s: &[u8], i: usize) -> u8
-    ensures { result ≡ get_or s.now i 0 }
-{
-    s.get(i).copied().unwrap_or(0)
-}
 
 // How many bytes stand before the first c: all, where there is none.
 pub fn bytes_before(s: &[u8], c: u8) -> usize

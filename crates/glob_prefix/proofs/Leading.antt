@@ -2,7 +2,7 @@
 use mathlib.Core.Path.{◌≡◌, refl, sym, ap, ap₂, subst, ◌∙◌}
 use mathlib.Core.List.{List, [], ◌∷◌, ◌++◌}
 use mathlib.Core.Bool.{Bool, true, false, not, ◌&&◌, ◌||◌}
-use Prim.Native.Nat.{ℕ, zero, suc, min, ◌+◌, ◌-◌, ◌<◌, ◌≤◌}
+use Prim.Native.Nat.{ℕ, zero, suc, min, ◌+◌, ◌<◌, ◌≤◌}
 use native.Mathlib.Omega.{arith}
 use Rattle.std.specs.Prelude.{nat_eq}
 use Rattle.std.specs.List.{position_or_len}
@@ -12,14 +12,15 @@ use lib.Seq.{length-take-le, take-take, take-add, drop-drop, drop-length}
 use lib.Dec.{eqb}
 use lib.Pointwise.{pointwise}
 use borrow.Author.Tests.{eq-eqb, eqb-true, ne_eqb}
+use Rattle.buffer.specs.Lists.{none}
 use Rattle.buffer.proofs.Tests.{not_both, and_left, and_right}
 use Rattle.glob.specs.Bytes.{slash, star}
 use Rattle.glob.specs.Labels.{up_to_slash, labels_of, deep, Begun}
 use Rattle.glob.specs.Fit.{first, fits_label, fit_labels, fits_path}
 use Rattle.glob_prefix.specs.Prefix.{LiteralPrefix, differs, Plain}
-use Rattle.glob.proofs.Parts.{tail_part, no_items, back, step}
+use Rattle.glob.proofs.Parts.{no_items, step}
 use Rattle.glob.proofs.Trials.{fit_one, end_law}
-use Rattle.glob.proofs.Cuts.{take_up, drop_up, begun_up}
+use Rattle.glob.proofs.Cuts.{take_up, drop_up, begun_up, no_labels}
 
 -- what has a first element that passes f, the others as k has it
 record Firsts {B : Type 0} (f : B → Bool) (k : List B → Bool) (s : List B) : Type 0 where
@@ -138,48 +139,52 @@ next_label pattern path a n l h d p b e =
       rest = λ z. let g = same.rest z in (subst Begun left g.0, sym (ap₂ (λ (x y : List ℕ). fit_labels (labels_of x) (labels_of y)) over left) ∙ g.1);
     }
 
--- the label of the pattern from a on, with its `/` of r bytes, is not `**`, and n bytes of it are plain
-module _ (pattern : List ℕ) (a r n : ℕ) (l : a < length pattern) (h : Led pattern a) (cut : r ≡ 1 + length (up_to_slash (drop 1 (back pattern a))))
-    (d : deep (take (a + r - (a + 1)) (drop (a + 1) pattern)) ≡ false) (p : Plain (take (a + r - (a + 1)) (drop (a + 1) pattern)) n) where
+-- label is the first of the labels of the pattern from a on, and others are those behind it; it is not `**`, and n bytes of it are plain
+module _ (pattern label : List ℕ) (others : List (List ℕ)) (a n : ℕ) (h : Led pattern a) (e : labels_of (drop a pattern) ≡ label ∷ others) (d : deep label ≡ false) (p : Plain label n) where
   abbrev behind : List ℕ
   behind = drop (a + 1) pattern
 
-  size : r ≡ 1 + length (up_to_slash behind)
-  size = cut ∙ ap (λ (s : List ℕ). 1 + length (up_to_slash s)) (ap (drop 1) (tail_part a pattern) ∙ drop-drop 1 a pattern)
+  slashed : drop a pattern ≡ slash ∷ behind
+  slashed = slash_first (drop a pattern) (λ z. not_both (ap none (no_labels (drop a pattern) z)) (ap none e)) h.begun ∙ ap (λ (s : List ℕ). slash ∷ s) (drop-drop 1 a pattern)
 
-  label : take (a + r - (a + 1)) behind ≡ up_to_slash behind
-  label = let e : a + r - (a + 1) ≡ length (up_to_slash behind) = let z = size in omega arith in ap (λ (i : ℕ). take i behind) e ∙ take_up behind
+  inside : a < length pattern
+  inside = let m = length-drop a pattern in let k = ap length slashed in omega arith
+
+  same : label ∷ others ≡ up_to_slash behind ∷ labels_of behind
+  same = sym e ∙ ap labels_of slashed
+
+  is : label ≡ up_to_slash behind
+  is = ap (λ (ls : List (List ℕ)). get_or ls 0 []) same
 
   next : (path : List ℕ) → Begun path → fits_path pattern path ≡ true → Next pattern path a n
-  next path = next_label pattern path a n l h (sym (ap deep label) ∙ d) (subst (λ (s : List ℕ). Plain s n) label p)
+  next path = next_label pattern path a n inside h (sym (ap deep is) ∙ d) (subst (λ (s : List ℕ). Plain s n) is p)
 
-  here : a + suc n ≡ a + 1 + n
+  here : a + suc n ≡ a + (1 + n)
   here = omega arith
 
-  few : n ≤ length (up_to_slash behind)
-  few = subst (λ (s : List ℕ). n ≤ length s) label p.in_label
-
-  inside : a + 1 + n ≤ length pattern
-  inside =
+  within : a + (1 + n) ≤ length pattern
+  within =
       let up = long_enough (length (up_to_slash behind)) behind (ap length (take_up behind)) in
-      omega (arith, length-drop (a + 1) pattern, up, few)
+      omega (arith, inside, length-drop (a + 1) pattern, up, subst (λ (s : List ℕ). n ≤ length s) is p.in_label)
 
-  pub stop_inside : LiteralPrefix pattern (a + 1 + n)
-  stop_inside = record { in_pattern = inside; begins = λ path g f. subst (λ (i : ℕ). take i path ≡ take i pattern) here (next path (λ z. g) f).bytes }
+  pub stop_inside : LiteralPrefix pattern (a + (1 + n))
+  stop_inside = record { in_pattern = within; begins = λ path g f. subst (λ (i : ℕ). take i path ≡ take i pattern) here (next path (λ z. g) f).bytes }
 
   -- all of it is plain
-  pub led_on : a + r ≤ a + 1 + n → Led pattern (a + r)
+  pub led_on : length label ≤ n → Led pattern (a + (1 + n)) × (labels_of (drop (a + (1 + n)) pattern) ≡ others)
   led_on g =
-      let all : n ≡ length (up_to_slash behind) = omega (arith, few, size) in
-      let end : a + 1 + n ≡ a + r = omega (arith, all, size) in
-      let over : drop (length (up_to_slash behind)) behind ≡ drop (a + 1 + n) pattern = drop-drop (length (up_to_slash behind)) (a + 1) pattern ∙ sym (ap (λ (i : ℕ). drop (a + 1 + i) pattern) all) in
-      subst (Led pattern) end (record {
-        within = inside;
-        begun = subst Begun over (begun_up behind);
-        leads = λ path b f. let x = next path b f in subst
-            (λ (i : ℕ). (take i path ≡ take i pattern) × Begun (drop i path) × (fit_labels (labels_of (drop i pattern)) (labels_of (drop i path)) ≡ true)) here
-            (x.bytes, (x.rest all).0, (x.rest all).1);
-      })
+      let all : n ≡ length (up_to_slash behind) = omega (arith, p.in_label, ap length is) in
+      let over : drop (length (up_to_slash behind)) behind ≡ drop (a + (1 + n)) pattern =
+      ap (λ (i : ℕ). drop i behind) (sym all) ∙ drop-drop n (a + 1) pattern ∙ ap (λ (i : ℕ). drop i pattern) (omega arith) in (
+        record {
+          within = within;
+          begun = subst Begun over (begun_up behind);
+          leads = λ path b f. let x = next path b f in subst
+              (λ (i : ℕ). (take i path ≡ take i pattern) × Begun (drop i path) × (fit_labels (labels_of (drop i pattern)) (labels_of (drop i path)) ≡ true)) here
+              (x.bytes, (x.rest all).0, (x.rest all).1);
+        },
+        ap labels_of (sym over) ∙ sym (drop_up behind) ∙ sym (ap (drop 1) same),
+      )
 
 -- lists differ where as many bytes of each do as the shorter one has
 pub differs_cut : (a b : List ℕ) (n : ℕ) → n ≡ min (length a) (length b) → not (pointwise eqb (take n a) (take n b)) ≡ differs a b

@@ -3,7 +3,8 @@ ghost use Rattle.std.specs.Prelude.{◌≡◌};
 ghost use Rattle.glob_prefix.specs.Prefix.{LiteralPrefix, differs, Plain};
 
 use glob::bytes::{SLASH, STAR};
-use glob::split::{bytes_before, is_deep, next_slash};
+use glob::labels::Labels;
+use glob::split::{bytes_before, is_deep};
 
 // So many bytes tell nearly all paths apart that more would; to find more takes longer than it spares.
 const ENOUGH: usize = 16;
@@ -24,20 +25,15 @@ pub fn literal_prefix(pattern: &[u8]) -> usize
         return 0;
     }
     let mut a = 0;
-    // No `for`: a turn takes a label.
-    while a < pattern.len() {
-        if ENOUGH <= a {
-            return a; // enough
-        }
-        let b = a + next_slash(&pattern[a..], 1);
-        if is_deep(&pattern[a + 1..b]) {
+    for label in Labels::new(pattern) {
+        if is_deep(label) {
             return a; // it may take no label
         }
-        let n = a + 1 + plain_length(&pattern[a + 1..b]);
-        if n < b {
-            return n;
+        let n = plain_length(label);
+        a += 1 + n;
+        if n < label.len() || ENOUGH <= a {
+            return a;
         }
-        a = b;
     }
     a
 }

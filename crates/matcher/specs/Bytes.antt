@@ -1,5 +1,5 @@
 -- The bytes with a meaning of their own, the sizes, and the bytes of a label. Assumes nothing: these are definitions.
-use Rattle.std.specs.Prelude.{ℕ, ◌<◌, ◌≡◌, List, Bool, true, not, ◌&&◌, ◌||◌, eqb, leb, get_or}
+use Rattle.std.specs.Prelude.{ℕ, ◌<◌, ◌≡◌, List, Bool, true, false, not, ◌&&◌, ◌||◌, eqb, leb, get_or}
 -- the most bytes of a path, and of a pattern
 pub use Rattle.buffer.specs.Sizes.{path_limit}
 -- `/` and `*`
@@ -21,6 +21,6 @@ label_byte c = ((leb 0x20 c && leb c 0x7E) || (leb 0x80 c && leb c 0xFF)) && (no
 abbrev pub LabelAt : List ℕ → ℕ → Type 0
 LabelAt s i = label_byte (get_or s i 0) ≡ true
 
--- marks, one for each byte, that follow the rule: 1 stands at each byte of a label, and at no other
-pub record Marks (marks : List ℕ) : Type 0 where
-  pub are : (c : ℕ) → c < 256 → eqb (get_or marks c 0) 1 ≡ label_byte c
+-- marks, one for each byte, that follow the rule: true stands at each byte of a label, and at no other
+pub record Marks (marks : List Bool) : Type 0 where
+  pub are : (c : ℕ) → c < 256 → get_or marks c false ≡ label_byte c

@@ -19,5 +19,5 @@ pub const PATTERN_LABEL_LIMIT: usize = 32;
 pub fn label_byte(b: u8) -> bool
     ensures { result ≡ label_byte b }
 {
-    LABEL_BYTES[b as usize] == 1
+    LABEL_BYTES[usize::from(b)]
 }

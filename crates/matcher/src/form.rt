@@ -9,6 +9,8 @@ use crate::bytes::{PATH_LIMIT, PATTERN_LABEL_LIMIT, SLASH, STAR};
 use crate::runs::are_apart;
 use glob::labels::Labels;
 use glob::split::{is_deep, label_count};
+use std::error::Error;
+use std::fmt;
 
 // Why a path or a pattern is turned down. `TooLong`: over 200 bytes, or a pattern with over 32 `/`.
 #[derive(Clone, Copy, PartialEq, Eq, Debug)]
@@ -16,6 +18,17 @@ pub enum FormError {
     TooLong,
     Malformed,
 }
+
+impl fmt::Display for FormError {
+    fn fmt<W: fmt::Write>(&self, f: &mut fmt::Formatter<W>) -> fmt::Result {
+        f.write_str(match self {
+            FormError::TooLong => "it is over 200 bytes, or a pattern over 32 labels",
+            FormError::Malformed => "it is not well formed",
+        })
+    }
+}
+
+impl Error for FormError {}
 
 // The number of document 01 for a path, and for a pattern, of this form: 0 where it is fine. Two tables that share no number are plainer than one with a
 // parameter.
@@ -85,16 +98,7 @@ fn is_pattern_label(l: &[u8]) -> bool
 fn are_pattern_labels(pattern: &[u8]) -> bool
     ensures { result ≡ all pattern_label (labels_of pattern.now) }
 {
-    let mut labels = Labels::new(pattern);
-    // No `for`: a turn takes a label.
-    while !labels.is_empty() {
-        let (label, others) = labels.split_first();
-        if !is_pattern_label(label) {
-            return false;
-        }
-        labels = others;
-    }
-    true
+    Labels::new(pattern).all(is_pattern_label)
 }
 
 // Is this a pattern, of any length?

@@ -1,35 +1,39 @@
-// The table of 256 marks: 1 for each byte of a label, 20 to 7E and 80 to FF hex without `/` and `*`.
-pub const LABEL_BYTES: [u8; 256] = [
+// The table of 256 marks: true for each byte of a label, 20 to 7E and 80 to FF hex without `/` and `*`.
+pub const LABEL_BYTES: [bool; 256] = [
     // 00 to 0F
-    0, 0, 0, 0, 0, 0, 0, 0, 0, 0, 0, 0, 0, 0, 0, 0,
+    false, false, false, false, false, false, false, false, false, false, false, false, false,
+    false, false, false,
     // 10 to 1F
-    0, 0, 0, 0, 0, 0, 0, 0, 0, 0, 0, 0, 0, 0, 0, 0,
+    false, false, false, false, false, false, false, false, false, false, false, false, false,
+    false, false, false,
     // 20 to 2F
-    1, 1, 1, 1, 1, 1, 1, 1, 1, 1, 0, 1, 1, 1, 1, 0,
+    true, true, true, true, true, true, true, true, true, true, false, true, true, true, true,
+    false,
     // 30 to 3F
-    1, 1, 1, 1, 1, 1, 1, 1, 1, 1, 1, 1, 1, 1, 1, 1,
+    true, true, true, true, true, true, true, true, true, true, true, true, true, true, true, true,
     // 40 to 4F
-    1, 1, 1, 1, 1, 1, 1, 1, 1, 1, 1, 1, 1, 1, 1, 1,
+    true, true, true, true, true, true, true, true, true, true, true, true, true, true, true, true,
     // 50 to 5F
-    1, 1, 1, 1, 1, 1, 1, 1, 1, 1, 1, 1, 1, 1, 1, 1,
+    true, true, true, true, true, true, true, true, true, true, true, true, true, true, true, true,
     // 60 to 6F
-    1, 1, 1, 1, 1, 1, 1, 1, 1, 1, 1, 1, 1, 1, 1, 1,
+    true, true, true, true, true, true, true, true, true, true, true, true, true, true, true, true,
     // 70 to 7F
-    1, 1, 1, 1, 1, 1, 1, 1, 1, 1, 1, 1, 1, 1, 1, 0,
+    true, true, true, true, true, true, true, true, true, true, true, true, true, true, true,
+    false,
     // 80 to 8F
-    1, 1, 1, 1, 1, 1, 1, 1, 1, 1, 1, 1, 1, 1, 1, 1,
+    true, true, true, true, true, true, true, true, true, true, true, true, true, true, true, true,
     // 90 to 9F
-    1, 1, 1, 1, 1, 1, 1, 1, 1, 1, 1, 1, 1, 1, 1, 1,
+    true, true, true, true, true, true, true, true, true, true, true, true, true, true, true, true,
     // A0 to AF
-    1, 1, 1, 1, 1, 1, 1, 1, 1, 1, 1, 1, 1, 1, 1, 1,
+    true, true, true, true, true, true, true, true, true, true, true, true, true, true, true, true,
     // B0 to BF
-    1, 1, 1, 1, 1, 1, 1, 1, 1, 1, 1, 1, 1, 1, 1, 1,
+    true, true, true, true, true, true, true, true, true, true, true, true, true, true, true, true,
     // C0 to CF
-    1, 1, 1, 1, 1, 1, 1, 1, 1, 1, 1, 1, 1, 1, 1, 1,
+    true, true, true, true, true, true, true, true, true, true, true, true, true, true, true, true,
     // D0 to DF
-    1, 1, 1, 1, 1, 1, 1, 1, 1, 1, 1, 1, 1, 1, 1, 1,
+    true, true, true, true, true, true, true, true, true, true, true, true, true, true, true, true,
     // E0 to EF
-    1, 1, 1, 1, 1, 1, 1, 1, 1, 1, 1, 1, 1, 1, 1, 1,
+    true, true, true, true, true, true, true, true, true, true, true, true, true, true, true, true,
     // F0 to FF
-    1, 1, 1, 1, 1, 1, 1, 1, 1, 1, 1, 1, 1, 1, 1, 1,
+    true, true, true, true, true, true, true, true, true, true, true, true, true, true, true, true,
 ];

@@ -1,7 +1,7 @@
 // Can the first bytes of a path be continued to one that matches a pattern?
 ghost use Rattle.std.specs.Prelude.{◌≡◌, true, ℕ, List};
 ghost use Rattle.matcher.specs.Form.{pattern_form, is_fine};
-ghost use Rattle.matcher.specs.Continued.{ended, FirstBytes};
+ghost use Rattle.matcher.specs.Continued.{FirstBytes};
 ghost use Rattle.matcher.specs.Reach.{is_first, reach_labels, reach_of, LiteralPrefix, Reached, RuledOut, OneLeads};
 
 use crate::bytes::END;
@@ -21,19 +21,12 @@ pub enum Answer {
     Incomplete,
 }
 
-// Is the last byte known the end byte?
-fn is_ended(known: &[u8]) -> bool
-    ensures { result ≡ ended known.now }
-{
-    known.last() == Some(&END)
-}
-
 // Do the bytes known begin a path, or are they a path and its end byte?
 fn is_first(known: &[u8]) -> bool
     ensures { result ≡ is_first known.now }
 {
-    if is_ended(known) {
-        return is_path(&known[..known.len() - 1]);
+    if let Some((&END, path)) = known.split_last() {
+        return is_path(path);
     }
     begins_path(known)
 }
@@ -42,8 +35,8 @@ fn is_first(known: &[u8]) -> bool
 fn reach_labels(pattern: &[u8], known: &[u8]) -> Answer
     ensures { result ≡ reach_labels pattern.now known.now }
 {
-    if is_ended(known) {
-        if fits_formed(pattern, &known[..known.len() - 1]) {
+    if let Some((&END, path)) = known.split_last() {
+        if fits_formed(pattern, path) {
             return Answer::Match;
         }
         return Answer::Mismatch; // it does not fit

@@ -1,18 +1,14 @@
--- Comparing strings byte by byte: what is left to compare after i equal bytes. Assumes nothing.
+-- Comparing strings byte by byte. Assumes nothing.
 use mathlib.Core.Path.{◌≡◌, refl, ap}
 use mathlib.Core.Bool.{Bool, true, false, cond, ◌&&◌}
-use Prim.Native.Nat.{ℕ, suc, ◌+◌, ◌≤◌, ◌<◌, min}
-use mathlib.Core.Logic.{⊎_elim}
-use Rattle.std.proofs.lemmas.Bool.{cases_lt}
+use Prim.Native.Nat.{ℕ, suc, ◌+◌, ◌≤◌}
 use mathlib.Core.List.{List, [], ◌∷◌}
 use native.Mathlib.Omega.{arith}
-use native.Mathlib.Numerals.{add-one}
 use Rattle.std.specs.Prelude.{Some, None, slice_get}
-use lib.ListN.{length, get_or, take, drop, drop_of_length-le}
-use lib.Seq.{drop-cons}
+use Rattle.std.specs.List.{prefix_len, zip}
+use lib.ListN.{length, take}
 use lib.Dec.{eqb}
 use lib.Pointwise.{pointwise}
-use borrow.Author.Tests.{eq-eqb, ne_eqb}
 use Rattle.buffer.proofs.Tests.{and_right}
 use Rattle.trie_theory.specs.Strings.{begins, common, first}
 use Rattle.trie_theory.specs.Dimensions.{root, below, branching}
@@ -31,34 +27,30 @@ pointwise_begins [] s = refl
 pointwise_begins (a ∷ p) [] = refl
 pointwise_begins (a ∷ p) (b ∷ s) = ap (λ (t : Bool). eqb a b && t) (pointwise_begins p s)
 
--- ---- what two strings have in common, after i equal bytes
+-- ---- what two strings have in common
 
-common_cons : (a b : ℕ) (s t : List ℕ) → common (a ∷ s) (b ∷ t) ≡ cond (eqb a b) (a ∷ common s t) []
+-- the equal pairs that they begin with
+pub common_pairs : (s t : List ℕ) → prefix_len (λ (p : ℕ × ℕ). eqb p.0 p.1) (zip s t) ≡ length (common s t)
 unfolding common
-common_cons a b s t = refl
-
-pub common_none : (s t : List ℕ) (i : ℕ) → length s ≤ i → length (common (drop i s) (drop i t)) ≡ 0
-unfolding common
-common_none s t i h = rw (drop_of_length-le s h)
-
-pub common_short : (s t : List ℕ) (i : ℕ) → length t ≤ i → length (common (drop i s) (drop i t)) ≡ 0
-unfolding common
-common_short s t i h = rw (drop_of_length-le t h) (nothing (drop i s))
+common_pairs [] t = refl
+common_pairs (a ∷ s) [] = refl
+common_pairs (a ∷ s) (b ∷ t) = go (eqb a b) (common_pairs s t)
   where
-    nothing : (u : List ℕ) → length (common u []) ≡ 0
-    nothing [] = refl
-    nothing (x ∷ u) = refl
+    go : (e : Bool) → prefix_len (λ (p : ℕ × ℕ). eqb p.0 p.1) (zip s t) ≡ length (common s t)
+        → cond e (1 + prefix_len (λ (p : ℕ × ℕ). eqb p.0 p.1) (zip s t)) 0 ≡ length (cond e (a ∷ common s t) [])
+    go true h = omega arith
+    go false h = refl
 
-pub common_end : (s t : List ℕ) (i : ℕ) → min (length s) (length t) ≤ i → length (common (drop i s) (drop i t)) ≡ 0
-common_end s t i h =
-    ⊎_elim (λ (z : i < length s). common_short s t i (grind arith)) (λ (z : length s ≤ i). common_none s t i z) (cases_lt i (length s))
-
-module _ (s t : List ℕ) (i : ℕ) (ins : i < length s) (int : i < length t) where
-  pub common_on : get_or s i 0 ≡ get_or t i 0 → length (common (drop i s) (drop i t)) ≡ suc (length (common (drop (i + 1) s) (drop (i + 1) t)))
-  common_on e = rw (add-one i, drop-cons s i 0 ins, drop-cons t i 0 int, common_cons, eq-eqb (get_or s i 0) (get_or t i 0) e)
-
-  pub common_off : (get_or s i 0 ≡ get_or t i 0 → ⊥) → length (common (drop i s) (drop i t)) ≡ 0
-  common_off n = rw (drop-cons s i 0 ins, drop-cons t i 0 int, common_cons, ne_eqb (get_or s i 0) (get_or t i 0) n)
+pub common_within : (s t : List ℕ) → (length (common s t) ≤ length s) × (length (common s t) ≤ length t)
+unfolding common
+common_within [] t = (omega arith, omega arith)
+common_within (a ∷ s) [] = (omega arith, omega arith)
+common_within (a ∷ s) (b ∷ t) = go (eqb a b) (common_within s t)
+  where
+    go : (e : Bool) → (length (common s t) ≤ length s) × (length (common s t) ≤ length t)
+        → (length (cond e (a ∷ common s t) []) ≤ length (a ∷ s)) × (length (cond e (a ∷ common s t) []) ≤ length (b ∷ t))
+    go true h = (omega (arith, h.0), omega (arith, h.1))
+    go false h = (omega arith, omega arith)
 
 -- the first byte of a string
 pub first_got : (s : List ℕ) (b : ℕ) → Some b ≡ slice_get s 0 → b ≡ first 0 (s ∷ [])

@@ -8,10 +8,20 @@ ghost use Rattle.trie_read.specs.Heads.{head_of, head_in, head_told, InBytes, St
 use crate::kind::Kind;
 use crate::sizes::{BODY_LENGTH_AT, HEAD_SIZE};
 use buffer::numbers::get32;
+use std::error::Error;
+use std::fmt;
 
 // No node, or no suffix, begins here.
 #[derive(Clone, Copy, Debug, PartialEq, Eq)]
 pub struct Malformed;
+
+impl fmt::Display for Malformed {
+    fn fmt<W: fmt::Write>(&self, f: &mut fmt::Formatter<W>) -> fmt::Result {
+        f.write_str("no node or suffix begins here")
+    }
+}
+
+impl Error for Malformed {}
 
 // A node where it is read: the byte of its kind, its strings, its body, and the bytes of its later siblings. The kind is made of the byte where it is asked
 // for: a search passes over most nodes without, and would be 5 % slower with it.

@@ -13,7 +13,7 @@ use Rattle.matcher.proofs.runs.are_apart.Goals as goal
 past : (c : After-label_end-end)
     → let a = c.args in apart a.mark a.s.now ≡ apart a.mark (drop c.label_end-end.result a.s.now)
 past c =
-    c.loop-i.invariant.1 ∙ apart_past c.args.mark c.args.s.now (length c.args.s.now - 1) c.loop-i.i c.label_end-end.result c.requires (omega (arith, c.loop-i-test.true)) c.label_end-end.ensures.0
+    c.loop-i.invariant.1 ∙ apart_past c.args.mark c.args.s.now (length c.args.s.now - 1) c.loop-i.i c.label_end-end.result c.requires.0 (omega (arith, c.loop-i-test.true)) c.label_end-end.ensures.0
 
 pub returns-then-not-may_stand : goal.returns-then-not-may_stand
 returns-then-not-may_stand c =
