@@ -11,14 +11,16 @@ use lib.ListN.{length, take, drop, get_or, length-drop}
 use lib.Seq.{drop-drop, get_or-drop, take_all, drop-length}
 use lib.Dec.{eqb}
 use borrow.Author.Tests.{eq-eqb, ne_eqb, eqb-true}
+use Rattle.std.proofs.Common.{Option, Some, None, IfSome, MatchOption}
 use Rattle.buffer.specs.Lists.{none}
 use Rattle.glob.specs.Bytes.{slash, star}
 use Rattle.glob.specs.Labels.{up_to_slash, labels_of, deep, Begun, FirstLabel}
 use Rattle.glob.specs.Fit.{after_some, first, fit, fits_label, fit_labels}
-use Rattle.glob.specs.Inner.{Says, OffLabels}
+use Rattle.glob.specs.Inner.{Says, Skipped, Next, OffLabels}
 use Rattle.glob.specs.declared.fit.Trial.{Trial}
-use Rattle.buffer.proofs.Tests.{and_false, not_both, same?}
+use Rattle.buffer.proofs.Tests.{and_right, and_false, not_both, same?}
 use Rattle.glob.proofs.Parts.{tail_part, no_items, front, back, back_step, back_end, length_back, step}
+use Rattle.glob.proofs.Skips.{skip_none, skip_to}
 use Rattle.glob.proofs.Trials.{fit_wild, fit_one, byte_law, end_law, Tried, tried_on, first_on, first_off, last_only, last_later}
 
 -- in what stands up to the first `/` there is none
@@ -132,8 +134,18 @@ tried_place ps s u b l e y = elim (dec_le (length s) b) [ yes z ↦ tried_label 
 pub off_up : (ps : List (List ℕ)) (s : List ℕ) (i r : ℕ) → r ≡ i + length (up_to_slash (drop i s)) → r ≤ i + (length s - i) → (j : ℕ) → i ≤ j → j < r → OffLabels ps s j
 off_up ps s i r h l j z m e = absurd (up_none (drop i s) (j - i) (omega arith) (get_or-drop i s (j - i) 0 ∙ ap (λ (n : ℕ). get_or s n 0) (omega arith) ∙ slash_at s j (omega arith) e))
 
+-- so the next `/` is the next place at which one may begin, or the end
+pub next_up : (ps : List (List ℕ)) (s : List ℕ) (from r : ℕ) → from ≤ length s → (r ≡ from + length (up_to_slash (drop from s))) × (r ≤ from + (length s - from))
+    → (Skipped (OffLabels ps s) (length s) from r × (r ≤ length s)) × Begun (back s r)
+next_up ps s from r l h = ((skip_to (OffLabels ps s) (length s) from from r (omega arith) (omega arith) (off_up ps s from r h.0 h.1) (skip_none (OffLabels ps s) (length s) from (omega (arith, l))), omega (arith, l, h.1)), begun_next s from r h.0)
+
 pub first_cut : (f : List ℕ → Bool) (k : List (List ℕ) → Bool) (s l t : List ℕ) (r : Trial) → FirstLabel s l t → f l ≡ true → Says k (labels_of t) r → Says (first f k) (labels_of s) r
 first_cut f k s l t r h e y = subst (λ (ls : List (List ℕ)). Says (first f k) ls r) (sym h.labels) (first_on k f l (labels_of t) r e y)
+
+-- the first label of a path fits that of a pattern, which is no `**`: what is said of the others is so of all
+pub rest_says : (p l t s a b : List ℕ) (r : Trial) → FirstLabel p l t → deep l ≡ false → FirstLabel s a b → fits_label l a ≡ true
+    → Says (fit_labels (labels_of t)) (labels_of b) r → Says (fit_labels (labels_of p)) (labels_of s) r
+rest_says p l t s a b r h d g e y = subst (λ (k : List (List ℕ) → Bool). Says k (labels_of s) r) (sym (one_law p l t h d)) (first_cut (fits_label l) (fit_labels (labels_of t)) s a b r g e y)
 
 -- there is no first label
 pub none_first : (f : List ℕ → Bool) (k : List (List ℕ) → Bool) (ls : List (List ℕ)) → none ls ≡ true → after_some (first f k) ls ≡ false
@@ -179,10 +191,14 @@ short_law (x ∷ c ∷ p) (y ∷ []) l f w v m g =
     (first_off (fit_labels (labels_of (c ∷ p))) (fits_label (up_to_slash (c ∷ p))) [] [] (rw (ne_eqb c slash v, byte_law (c ∷ up_to_slash p) (λ z. absurd (omega arith)) w)))
 short_law (x ∷ c ∷ p) (y ∷ d ∷ s) l f w v m g = absurd (omega arith)
 
+-- at i of s a label begins, with the byte with which the first of p begins
+abbrev pub begins_at : List ℕ → List ℕ → ℕ → Bool
+begins_at p s i = eqb (get_or s (i + 1) 0) (get_or p 1 0) && eqb (get_or s i 0) slash
+
 -- the first label of a pattern begins with a byte of its own
 module _ (p s : List ℕ) (l : 1 < length p) (f : Begun p) (w : get_or p 1 0 ≡ star → ⊥) where
   -- and the label at i with another
-  pub off_unlike : (i : ℕ) → i + 1 < length s → eqb (get_or s (i + 1) 0) (get_or p 1 0) && eqb (get_or s i 0) slash ≡ false → OffLabels (labels_of p) s i
+  off_unlike : (i : ℕ) → i + 1 < length s → begins_at p s i ≡ false → OffLabels (labels_of p) s i
   off_unlike i m n g =
       let k = length_back s i in
       let next : get_or (back s i) 1 0 ≡ get_or s (i + 1) 0 = ap (λ (t : List ℕ). get_or t 1 0) (back_step s i (omega arith) ∙ ap (λ (t : List ℕ). get_or s i 0 ∷ t) (back_step s (i + 1) m)) in
@@ -194,6 +210,21 @@ module _ (p s : List ℕ) (l : 1 < length p) (f : Begun p) (w : get_or p 1 0 ≡
   -- and what is left has one byte, or none
   pub off_last : (get_or p 1 0 ≡ slash → ⊥) → (i : ℕ) → length s ≤ i + 1 → OffLabels (labels_of p) s i
   off_last v i m = short_law p (back s i) l f w v (omega (arith, length_back s i))
+
+  -- the first place at which a label begins with it; or there is none
+  pub next_own : (get_or p 1 0 ≡ slash → ⊥) → (from e : ℕ) → from ≤ length s → e ≡ length s - 1 → (o : Option ℕ)
+      → MatchOption o ((k : ℕ) → from ≤ k → k < e → begins_at p s k ≡ false) (λ i. (from ≤ i) × (i < e) × (begins_at p s i ≡ true) × ((k : ℕ) → from ≤ k → k < i → begins_at p s k ≡ false))
+      → Next (OffLabels (labels_of p) s) (length s) from o × IfSome o (λ i. Begun (back s i))
+  next_own v from e m h (Some i) g = (
+    (record { low = g.0; high = omega (arith, h, g.1); each = λ k a b. off_unlike k (omega (arith, h, g.1, b)) (g.3 k a b) }, omega (arith, h, g.1)),
+    begun_at s i (omega (arith, h, g.1)) (eqb-true _ _ (and_right (eqb (get_or s (i + 1) 0) (get_or p 1 0)) (eqb (get_or s i 0) slash) g.2)),
+  )
+  next_own v from e m h None g = (
+    skip_to (OffLabels (labels_of p) s) (length s) from from (length s + 1) (omega (arith, m)) (omega arith)
+        (λ j a b. elim (dec_le e j) [ yes z ↦ off_last v j (omega (arith, h, z)) | no z ↦ off_unlike j (omega (arith, h, lt_of_not-le z)) (g j a (lt_of_not-le z)) ])
+        (skip_none (OffLabels (labels_of p) s) (length s) from (omega (arith, m))),
+    tt,
+  )
 
 -- a pattern is one label, l, and not `**`
 pub single_law : (p l t : List ℕ) → FirstLabel p l t → none (labels_of t) ≡ true → deep l ≡ false → fit_labels (labels_of p) ≡ first (fits_label l) none

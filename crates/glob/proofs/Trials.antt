@@ -10,17 +10,16 @@ use lib.ListN.{length, get_or}
 use lib.Dec.{eqb}
 use lib.Seq.{get_or-drop}
 use borrow.Author.Tests.{eq-eqb, ne_eqb}
-use Rattle.std.specs.Prelude.{nat_eq}
-use Rattle.std.specs.List.{position_or_len}
+use Rattle.std.proofs.Common.{Option, Some, None}
 use Rattle.std.proofs.lemmas.Bool.{cases_lt}
-use Rattle.std.proofs.lemmas.List.Sums.{fails_before_first}
 use Rattle.buffer.specs.Lists.{none}
 use Rattle.glob.specs.Bytes.{star}
 use Rattle.glob.specs.Fit.{after_some, first, fit, fits_label}
-use Rattle.glob.specs.Inner.{Says, is_fit, Alike, Skipped, OffLabel}
+use Rattle.glob.specs.Inner.{Says, is_fit, Alike, Skipped, Next, OffLabel}
+use Rattle.glob.proofs.Skips.{through}
 use Rattle.glob.specs.declared.fit.Trial.{Trial}
 use Rattle.glob.specs.declared.fit.Trial.TheVariants.{Fits, Fails, Never}
-use Rattle.buffer.proofs.Tests.{not_both, and_false, or_false, or_left, or_left_false, or_right_false}
+use Rattle.buffer.proofs.Tests.{and_false, or_false, or_left, or_left_false, or_right_false}
 use Rattle.glob.proofs.Parts.{tail_part, rest, split, back, back_step, back_back, back_end, no_items}
 
 -- where k never holds, it does not hold now
@@ -166,12 +165,45 @@ alike_first p s n r f w g e a h =
     (subst (λ (l : List ℕ). Says (first (eqb (get_or p 0 0)) k) l r) (sym (split s g)) (first_on k (eqb (get_or p 0 0)) (get_or s 0 0) (rest s) r (eq-eqb _ _ e) (a.passes r behind)))
 
 -- the bytes passed over are others than that with which p, a label of a pattern, begins
-pub passed : (p s : List ℕ) → (length p ≡ 0 → ⊥) → (get_or p 0 0 ≡ star → ⊥) → (from m r : ℕ) → m ≡ position_or_len (λ b. nat_eq b (get_or p 0 0)) (back s from)
-    → from ≤ r → r ≤ length s + 1 → ((i : ℕ) → i < r → i < length s → i < from + m) → Skipped (OffLabel p s) (length s) from r
-passed p s f w from m r e l h g = record { low = l; high = h; each = λ i a b. ⊎_elim (λ (x : i < length s). off_here p s f w i x (other i a (g i b x))) (λ (x : length s ≤ i). off_end p s f w i x) (cases_lt i (length s)) }
+pub passed : (p s : List ℕ) → (length p ≡ 0 → ⊥) → (get_or p 0 0 ≡ star → ⊥) → (from r : ℕ) → from ≤ r → r ≤ length s + 1 → ((j : ℕ) → j < r - from → from + j < length s → get_or (back s from) j 0 ≡ get_or p 0 0 → ⊥)
+    → Skipped (OffLabel p s) (length s) from r
+passed p s f w from r l h g = record { low = l; high = h; each = λ i a b. ⊎_elim (λ (x : i < length s). off_here p s f w i x (other i a b x)) (λ (x : length s ≤ i). off_end p s f w i x) (cases_lt i (length s)) }
   where
-    other : (i : ℕ) → from ≤ i → i < from + m → get_or s i 0 ≡ get_or p 0 0 → ⊥
-    other i a b z =
+    other : (i : ℕ) → from ≤ i → i < r → i < length s → get_or s i 0 ≡ get_or p 0 0 → ⊥
+    other i a b x z =
         let k : from + (i - from) ≡ i = omega arith in
         let at : get_or (back s from) (i - from) 0 ≡ get_or s i 0 = ap (λ (t : List ℕ). get_or t (i - from) 0) (tail_part from s) ∙ get_or-drop from s (i - from) 0 ∙ ap (λ (j : ℕ). get_or s j 0) k in
-        not_both (eq-eqb _ _ (at ∙ z)) (fails_before_first (λ c. nat_eq c (get_or p 0 0)) (back s from) (i - from) 0 (omega (arith, e)))
+        g (i - from) (omega (arith, a, b)) (omega (arith, k, x)) (at ∙ z)
+
+-- a wild element has taken what stands before the next place at which k may hold, and t is left there; or k holds nowhere
+module _ {B : Type 0} (k : List B → Bool) where
+  abbrev pub Trying : ℕ → (ℕ → List B) → List B → Option ℕ → Type 0
+  Trying n t s (Some i) = (i ≤ n) × Passes k (t i) s
+  Trying n t s None = after_some k s ≡ false
+
+  pub trying : (Off : ℕ → Type 0) (n from : ℕ) (t : ℕ → List B) (s : List B) (o : Option ℕ) → Next Off n from o → ((i : ℕ) → i ≤ n → Off i → Tried k n i (t i) s → Tried k n (i + 1) (t (i + 1)) s) → Tried k n from (t from) s → Trying n t s o
+  trying Off n from t s (Some r) a f y = (a.1, (through Off n from (λ i. Tried k n i (t i) s) f r a.0 y).0 a.1)
+  trying Off n from t s None a f y = (through Off n from (λ i. Tried k n i (t i) s) f (n + 1) a y).1 (omega arith)
+
+  -- at the next place k holds, or never holds: so it is of the whole
+  pub trying_fits : (n i : ℕ) (t : ℕ → List B) (s : List B) (o : Option ℕ) → o ≡ Some i → Trying n t s o → Says k (t i) Fits → Says (after_some k) s Fits
+  trying_fits n i t s o e a h = (subst (Trying n t s) e a).1 Fits (now_some k (t i) h)
+
+  pub trying_never : (n i : ℕ) (t : ℕ → List B) (s : List B) (o : Option ℕ) → o ≡ Some i → Trying n t s o → Says k (t i) Never → Says (after_some k) s Never
+  trying_never n i t s o e a h = (subst (Trying n t s) e a).1 Never (never_twice k (t i) h)
+
+  -- there k does not hold: on to the place behind it
+  pub trying_on : (n i : ℕ) (t : ℕ → List B) (s : List B) (o : Option ℕ) → o ≡ Some i → Trying n t s o → Tried k n i (t i) s
+  trying_on n i t s o e a = let z = subst (Trying n t s) e a in (λ l. z.1, λ l. absurd (omega (arith, z.0)))
+
+  pub trying_none : (n : ℕ) (t : ℕ → List B) (s : List B) (o : Option ℕ) → o ≡ None → Trying n t s o → Says (after_some k) s Never
+  trying_none n t s o e a = never_twice k s (subst (Trying n t s) e a)
+
+-- so many places are left
+abbrev pub ahead : ℕ → Option ℕ → ℕ
+ahead n (Some i) = n + 1 - i
+ahead n None = 0
+
+pub ahead_less : (Off : ℕ → Type 0) (n i : ℕ) → i ≤ n → (o : Option ℕ) → Next Off n (i + 1) o → ahead n o < n + 1 - i
+ahead_less Off n i l (Some r) a = omega (arith, l, a.0.low, a.1)
+ahead_less Off n i l None a = omega (arith, l)

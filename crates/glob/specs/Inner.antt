@@ -29,6 +29,11 @@ pub record Skipped (Off : ℕ → Type 0) (n from r : ℕ) : Type 0 where
   pub high : r ≤ n + 1
   pub each : (i : ℕ) → from ≤ i → i < r → Off i
 
+-- the next place, from one on, at which Off may not hold; or it holds of all places that are left
+abbrev pub Next : (ℕ → Type 0) → ℕ → ℕ → Option ℕ → Type 0
+Next Off n from (Some r) = Skipped Off n from r × (r ≤ n)
+Next Off n from None = Skipped Off n from (n + 1)
+
 -- what is left of s at i does not fit p, a label of a pattern
 abbrev pub OffLabel : List ℕ → List ℕ → ℕ → Type 0
 OffLabel p s i = fits_label p (take (length s - i) (drop i s)) ≡ false

@@ -1,16 +1,16 @@
 // Does a path fit a pattern? Calls go deeper only as the pattern gets shorter, so the pattern alone bounds the stack.
 // An answer `Never` stops the wild element before it from trying again, so the time is at most pattern times path.
 // The loops over `i` are no iterator chains: they read several slices, or two places of one, at one index.
-ghost use Rattle.std.specs.Prelude.{◌≡◌, true, false, ◌&&◌, ◌+◌, ◌-◌, ◌<◌, ◌≤◌, length, take, drop, get_or, eqb};
+ghost use Rattle.std.specs.Prelude.{◌≡◌, true, false, ◌&&◌, ◌+◌, ◌-◌, ◌<◌, ◌≤◌, length, take, drop, get_or, eqb, IfSome};
 ghost use Rattle.buffer.specs.Lists.{none};
 ghost use Rattle.glob.specs.Bytes.{slash};
 ghost use Rattle.glob.specs.Labels.{labels_of, Begun};
 ghost use Rattle.glob.specs.Fit.{after_some, first, fits_label, fit_labels, fits_path};
-ghost use Rattle.glob.specs.Inner.{Says, is_fit, Alike, Skipped, OffLabel, OffLabels, AlikeLabels};
+ghost use Rattle.glob.specs.Inner.{Says, is_fit, Alike, Next, OffLabel, OffLabels, AlikeLabels};
 
 use crate::bytes::{SLASH, STAR};
 use crate::labels::Labels;
-use crate::split::{bytes_before, is_deep, last_label, next_slash};
+use crate::split::{is_deep, last_label, next_slash};
 
 // `Never`: it fails now, and also once any of the first bytes (or labels) are taken away.
 #[derive(Clone, Copy)]
@@ -43,21 +43,16 @@ fn alike(p: &[u8], s: &[u8]) -> usize
     n
 }
 
-// The next place, from one on, at which the rest of a label may fit a label of a pattern: it begins with the same byte, or the pattern with
-// `*`. Where there is none, one past the end.
-fn next_try(p: &[u8], s: &[u8], from: usize) -> usize
+// The next place, from one on, at which the rest of a label may fit a label of a pattern: it begins with the same byte, or the pattern with `*`.
+fn next_try(p: &[u8], s: &[u8], from: usize) -> Option<usize>
     requires { (length p.now ≡ 0 → ⊥) × (from ≤ length s.now + 1) }
-    ensures { Skipped (OffLabel p.now s.now) (length s.now) from result }
+    ensures { Next (OffLabel p.now s.now) (length s.now) from result }
 {
-    let c = p[0];
-    if c == STAR || s.len() <= from {
-        return from;
+    let rest = s.get(from..)?;
+    if p[0] == STAR {
+        return Some(from);
     }
-    let i = from + bytes_before(&s[from..], c);
-    if i < s.len() {
-        return i;
-    }
-    s.len() + 1
+    Some(from + rest.iter().position(|b| *b == p[0])?)
 }
 
 // Tries a label against a label of a pattern. Bytes that are alike are passed over in one turn.
@@ -86,13 +81,12 @@ fn after_star(p: &[u8], s: &[u8]) -> Trial
     if p.is_empty() {
         return Trial::Fits; // a last `*` takes all bytes that are left
     }
-    let mut i = next_try(p, s, 0);
-    // No `for`: a turn goes on to the next place that may fit, not to the next byte.
-    while i <= s.len() {
+    let mut next = next_try(p, s, 0);
+    while let Some(i) = next {
         match label(p, &s[i..]) {
             Trial::Fits => return Trial::Fits,
             Trial::Never => return Trial::Never,
-            Trial::Fails => i = next_try(p, s, i + 1),
+            Trial::Fails => next = next_try(p, s, i + 1),
         }
     }
     Trial::Never // `*` has taken all bytes
@@ -144,6 +138,7 @@ fn equal_labels(pattern: Labels<'_>, path: Labels<'_>) -> Option<usize>
 
 // Label matching: tries the rest of a path against the pattern that remains.
 #[cycle(descend_labels)]
+#[tactic(auto, using(crate::proofs::Cuts::rest_says))]
 fn labels(pattern: Labels<'_>, path: Labels<'_>) -> Trial
     ensures { Says (fit_labels (labels_of pattern.entry.bytes.now)) (labels_of path.entry.bytes.now) result }
 {
@@ -185,21 +180,19 @@ fn begins_with(path: &[u8], i: usize, c: u8) -> bool
 }
 
 // The next place, from one on, at which the rest of a path may fit a pattern. Where the pattern's first label begins with a byte of its own, that
-// byte begins the rest's first label; where there is no such place, one past the end. Else it is where any label begins, or the end.
-fn next_begin(pattern: Labels<'_>, path: &[u8], from: usize) -> usize
+// byte begins the rest's first label. Else it is where any label begins, or the end.
+fn next_begin(pattern: Labels<'_>, path: &[u8], from: usize) -> Option<usize>
     requires { from ≤ length path.now + 1 }
-    ensures { Skipped (OffLabels (labels_of pattern.entry.bytes.now) path.now) (length path.now) from result × Begun (take (length path.now - result) (drop result path.now)) }
+    ensures { Next (OffLabels (labels_of pattern.entry.bytes.now) path.now) (length path.now) from result × IfSome result (λ i. Begun (take (length path.now - i) (drop i path.now))) }
 {
     let pattern = pattern.bytes;
+    if path.len() < from {
+        return None;
+    }
     if pattern.len() < 2 || pattern[1] == STAR || pattern[1] == SLASH {
-        return next_slash(path, from);
+        return Some(next_slash(path, from));
     }
-    for i in from..path.len().saturating_sub(1) {
-        if begins_with(path, i, pattern[1]) {
-            return i;
-        }
-    }
-    path.len() + 1
+    (from..path.len().saturating_sub(1)).find(|i| begins_with(path, *i, pattern[1]))
 }
 
 // Tries a path against `**` and a last label, which is not `**`: it takes the path's last label, and `**` all before.
@@ -216,7 +209,9 @@ fn try_last(p: &[u8], path: &[u8]) -> Trial
 }
 
 // Descendant matching: tries the rest of a path against `**` and the pattern that remains. `**` takes one label more, or several, in each turn.
+// No part of `labels`, which would then save more registers at each label.
 #[cycle(descend_labels)]
+#[inline(never)]
 fn descend(pattern: Labels<'_>, path: Labels<'_>) -> Trial
     ensures { Says (after_some (fit_labels (labels_of pattern.entry.bytes.now))) (labels_of path.entry.bytes.now) result }
 {
@@ -226,13 +221,12 @@ fn descend(pattern: Labels<'_>, path: Labels<'_>) -> Trial
     if let Some(label) = pattern.single() {
         return try_last(label, path.bytes);
     }
-    let mut b = next_begin(pattern, path.bytes, 0);
-    // No `for`, as in `after_star`.
-    while b <= path.bytes.len() {
+    let mut next = next_begin(pattern, path.bytes, 0);
+    while let Some(b) = next {
         match labels(pattern, path.from(b)) {
             Trial::Fits => return Trial::Fits,
             Trial::Never => return Trial::Never,
-            Trial::Fails => b = next_begin(pattern, path.bytes, b + 1),
+            Trial::Fails => next = next_begin(pattern, path.bytes, b + 1),
         }
     }
     Trial::Never // `**` has taken all labels

@@ -1,9 +1,8 @@
--- By the laws of the first byte; the loop of `after_star` passes on `Tried`.
+-- By the laws of the first byte; the loop of `after_star` passes on `Trying`.
 use mathlib.Core.Path.{◌≡◌, sym, subst}
 use mathlib.Core.List.{List}
 use mathlib.Core.Bool.{Bool, false}
-use Prim.Native.Nat.{ℕ, ◌+◌}
-use native.Mathlib.Omega.{arith}
+use Prim.Native.Nat.{ℕ, ◌+◌, ◌≤◌}
 use borrow.Author.Rules.{rules}
 use Rattle.glob.specs.Bytes.{star}
 use lib.ListN.{length, get_or}
@@ -11,11 +10,8 @@ use lib.Dec.{eqb}
 use borrow.Author.Tests.{ne_eqb}
 use Rattle.glob.specs.Fit.{first, fits_label}
 use Rattle.glob.specs.Inner.{Says, OffLabel}
-use Rattle.glob.specs.declared.fit.Trial.TheVariants.{Fits, Never}
 use Rattle.glob.proofs.Parts.{rest, split, back, back_all, no_items, an_item}
-use Rattle.glob.proofs.Skips.{through}
-use Rattle.glob.proofs.Trials.{tried_none, tried_step, some_none, now_some, never_twice, first_off, star_law, byte_law, end_law, alike_first}
-use Rattle.glob.proofs.fit.+after_star_label.Invariants.{Taken}
+use Rattle.glob.proofs.Trials.{trying, trying_fits, trying_never, trying_on, trying_none, tried_none, tried_step, some_none, first_off, star_law, byte_law, end_law, alike_first}
 use Rattle.glob.proofs.fit.+after_star_label.Goals as goal
 
 pub after_star-returns-then-is_empty : goal.after_star-returns-then-is_empty
@@ -23,35 +19,30 @@ after_star-returns-then-is_empty t c =
     let e : length c.args.p.now ≡ 0 = search rules in
     rw (end_law c.args.p.now e) (some_none c.args.s.now)
 
-pub after_star-loop-i-init : goal.after_star-loop-i-init
-after_star-loop-i-init t c =
+pub after_star-loop-next-init : goal.after_star-loop-next-init
+after_star-loop-next-init t c =
     let p = c.args.p.now in
     let s = c.args.s.now in
-    (c.next_try-i.ensures.high, through (OffLabel p s) (length s) 0 (Taken p s) (tried_step p s s) c.next_try-i.result c.next_try-i.ensures (tried_none (fits_label p) (length s) (back s 0) s (back_all s)))
+    trying (fits_label p) (OffLabel p s) (length s) 0 (back s) s c.next_try-next.result c.next_try-next.ensures (tried_step p s s) (tried_none (fits_label p) (length s) (back s 0) s (back_all s))
 
 pub after_star-returns-in-Fits : goal.after_star-returns-in-Fits
-after_star-returns-in-Fits t c =
-    let k = fits_label c.args.p.now in
-    let l = back c.args.s.now c.loop-i.i in
-    c.loop-i.invariant.1.0 (omega (arith, c.loop-i-test.true)) Fits (now_some k l (subst (Says k l) c.in-Fits.is c.label.ensures))
+after_star-returns-in-Fits t c = trying_fits (fits_label c.args.p.now) (length c.args.s.now) c.in-Some.i (back c.args.s.now) c.args.s.now c.loop-next.next c.in-Some.is c.loop-next.invariant c.in-Fits.ensures
 
 pub after_star-returns-in-Never : goal.after_star-returns-in-Never
-after_star-returns-in-Never t c =
-    let k = fits_label c.args.p.now in
-    let l = back c.args.s.now c.loop-i.i in
-    c.loop-i.invariant.1.0 (omega (arith, c.loop-i-test.true)) Never (never_twice k l (subst (Says k l) c.in-Never.is c.label.ensures))
+after_star-returns-in-Never t c = trying_never (fits_label c.args.p.now) (length c.args.s.now) c.in-Some.i (back c.args.s.now) c.args.s.now c.loop-next.next c.in-Some.is c.loop-next.invariant c.in-Never.ensures
 
-pub after_star-loop-i-preserved : goal.after_star-loop-i-preserved
-after_star-loop-i-preserved t c =
+pub after_star-loop-next-preserved : goal.after_star-loop-next-preserved
+after_star-loop-next-preserved t c =
     let p = c.args.p.now in
     let s = c.args.s.now in
-    let i = c.loop-i.i in
-    let no = subst (Says (fits_label p) (back s i)) c.in-Fails.is c.label.ensures in
-    let next = c.next_try-i-in-Fails in
-    (next.ensures.high, through (OffLabel p s) (length s) (i + 1) (Taken p s) (tried_step p s s) next.result next.ensures (tried_step p s s i (omega (arith, c.loop-i-test.true)) no c.loop-i.invariant.1))
+    let k = fits_label p in
+    let i = c.in-Some.i in
+    let at = trying_on k (length s) i (back s) s c.loop-next.next c.in-Some.is c.loop-next.invariant in
+    let l : i ≤ length s = search rules in
+    trying k (OffLabel p s) (length s) (i + 1) (back s) s c.next_try-next-in-Fails.result c.next_try-next-in-Fails.ensures (tried_step p s s) (tried_step p s s i l c.in-Fails.ensures at)
 
 pub after_star-returns : goal.after_star-returns
-after_star-returns t c = never_twice (fits_label c.args.p.now) c.args.s.now (c.loop-i.invariant.1.1 (omega (arith, c.loop-i-test.false)))
+after_star-returns t c = trying_none (fits_label c.args.p.now) (length c.args.s.now) (back c.args.s.now) c.args.s.now c.loop-next.next c.in_default.is c.loop-next.invariant
 
 pub label-returns-in-None-None : goal.label-returns-in-None-None
 label-returns-in-None-None t c =
