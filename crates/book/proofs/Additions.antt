@@ -17,7 +17,7 @@ use Rattle.trie_theory.specs.Level.{level_of}
 use Rattle.trie_theory.specs.SmallTrie.{added, grown, small_trie}
 use Rattle.trie_theory.proofs.SmallKept.{small_last}
 use Rattle.entries.specs.Keys.{entry_key}
-use Rattle.book.specs.Digits.{digit, quotient, level, small}
+use Rattle.book.specs.Digits.{digit, quotient, small}
 use Rattle.book.specs.Book.{Book, Sound, put, held, formed}
 use Rattle.book.specs.Tries.{level_trie, tries}
 use Rattle.book.specs.Overflow.{from_highest}
