@@ -54,20 +54,20 @@ Fills width held answer r = Accepted width answer r.answer r.reply ⊎ NoRoom wi
 list_filled : (width : ℕ) (rows : List (List ℕ)) (second : ℕ) (answer : List ℕ) (held : ℕ) → length (flat rows) ≡ length rows * width
     → length rows ≤ held → Fills width held answer (list width rows second answer)
 unfolding list fill
-list_filled width rows second answer held e few = go (ltb (length answer) (length rows * width)) refl
+list_filled width rows second answer held e few = go _ (ltb (length answer) _) refl (omega arith) (omega arith)
   where
     filled : length rows * width ≤ length answer → Fills width held answer (result (reply 0 (length rows) second) (splice answer 0 (flat rows)))
     filled h =
         let fit : 0 + length (flat rows) ≤ length answer = omega arith in
         inl (record { number = refl; room = h; size = length_splice answer 0 (flat rows) fit; after_rows = drop_after answer 0 (flat rows) fit (length rows * width) (omega arith) })
 
-    go : (w : Bool) → ltb (length answer) (length rows * width) ≡ w → Fills width held answer (fill w rows second answer)
-    go true q = inr (record { number = refl; room = ltb-true (length answer) (length rows * width) q; few = few; second = refl; unchanged = refl })
-    go false q = filled (ltb-false (length answer) (length rows * width) q)
+    go : (n : ℕ) (w : Bool) → ltb (length answer) n ≡ w → n ≤ length rows * width → length rows * width ≤ n → Fills width held answer (fill w rows second answer)
+    go n true q low high = inr (record { number = refl; room = omega (arith, ltb-true (length answer) n q); few = few; second = refl; unchanged = refl })
+    go n false q low high = filled (omega (arith, ltb-false (length answer) n q))
 
 list_second : (width : ℕ) (rows : List (List ℕ)) (answer : List ℕ) → (list width rows 0 answer).reply.second ≡ 0
 unfolding list fill
-list_second width rows answer = go (ltb (length answer) (length rows * width))
+list_second width rows answer = go _
   where
     go : (w : Bool) → (fill w rows 0 answer).reply.second ≡ 0
     go true = refl

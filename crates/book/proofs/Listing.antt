@@ -1,6 +1,7 @@
 -- What a listing answers, by whether its rows have room. Assumes nothing.
 use Prim.Native.Nat.{ℕ, ◌*◌, ◌≤◌, ◌<◌}
 use mathlib.Core.Path.{◌≡◌, ap, ◌∙◌}
+use mathlib.Core.Bool.{Bool}
 use mathlib.Core.List.{List, []}
 use native.Mathlib.Omega.{arith}
 use native.Mathlib.Nat.{zero-mul}
@@ -15,11 +16,11 @@ use Rattle.book.specs.Step.{fill, list}
 module _ (width : ℕ) (rows : List (List ℕ)) (second : ℕ) (answer : List ℕ) where
   pub list_room : length rows * width ≤ length answer → list width rows second answer ≡ result (reply 0 (length rows) second) (splice answer 0 (flat rows))
   unfolding list fill
-  list_room h = rw (le-ltb (length answer) (length rows * width) h)
+  list_room h = ap (λ (w : Bool). fill w rows second answer) (le-ltb (length answer) _ (omega arith))
 
   pub list_over : length answer < length rows * width → list width rows second answer ≡ result (reply 11 (length rows) 0) answer
   unfolding list fill
-  list_over h = rw (lt-ltb (length answer) (length rows * width) h)
+  list_over h = ap (λ (w : Bool). fill w rows second answer) (lt-ltb (length answer) _ (omega arith))
 
 -- no rows
 pub list_none : (width second : ℕ) (answer : List ℕ) → list width [] second answer ≡ result (reply 0 0 second) answer

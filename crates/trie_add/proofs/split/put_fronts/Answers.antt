@@ -1,10 +1,11 @@
 -- The second front right behind the first.
 use native.Mathlib.Omega.{arith}
-use Prim.Native.Nat.{◌+◌, ◌-◌}
-use mathlib.Core.Path.{◌∙◌}
-use mathlib.Core.List.{[], ◌∷◌}
+use Prim.Native.Nat.{ℕ, ◌+◌, ◌-◌}
+use mathlib.Core.Path.{ap, ap₂, ◌∙◌}
+use mathlib.Core.List.{List, [], ◌∷◌}
 use lib.ListN.{take, drop}
 use lib.Seq.{length-take-le}
+use Rattle.buffer.specs.Splice.{splice}
 use Rattle.buffer.proofs.Splice.{splice_then}
 use Rattle.trie_read.specs.Kinds.{byte_of_kind}
 use Rattle.trie_read.specs.declared.kind.Kind.TheVariants.{Inner}
@@ -29,5 +30,6 @@ returns c =
     let l = length_front (byte_of_kind (Inner cut.dimension)) (take cut.value v ∷ take cut.path p ∷ []) a.size in
     let la = length-take-le cut.value v (omega (arith, lv, c.requires)) in
     let lb = length-take-le cut.path p (omega (arith, lp, c.requires)) in
-    let second = rw (part_from v cut.value, part_from p cut.path) at c.put_front-2.ensures in
+    let left = ap₂ (λ (x y : List ℕ). x ∷ y ∷ []) (part_from v cut.value) (part_from p cut.path) in
+    let second = c.put_front-2.ensures ∙ ap (λ (xs : List (List ℕ)). splice c.put_front.new.s (7 + cut.value + cut.path) (front (byte_of_kind n.kind) xs (n.next - n.body))) left in
     second ∙ splice_then _ a.new.now 0 one _ two c.put_front.ensures (omega (arith, la, lb, l)) (omega (arith, la, lb, l))
