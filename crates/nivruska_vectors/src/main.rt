@@ -12,13 +12,14 @@ use logline::sizes::{REPLY_LIMIT, ROW_LINE_LIMIT};
 use nivruska::Reply;
 use rows::sizes::{LENGTH_AT, PATH_AT, PATH_LIMIT, RECORD_SIZE, REFERENCE_AT, ROW_SIZE};
 use std::io;
+use store::front::{ENTRY_ROOM, FRONT_ROOM};
 
 const NODES_AT: usize = ROW_SIZE + 1;
 
 const NODE_SIZE: usize = 3;
 
 // What a store for M 9 and L 1 needs, and room for its records.
-const STORE_SIZE: usize = 1024 * 9 * 2 + 4096;
+const STORE_SIZE: usize = ENTRY_ROOM * 9 * 2 + FRONT_ROOM;
 
 const ANSWER_SIZE: usize = 9 * RECORD_SIZE;
 
