@@ -1,4 +1,5 @@
-// Spelling of replies and rows into a lent buffer. `write!` is not for it: no contract says that it succeeds where there is room.
+// Spelling of replies and rows into a lent buffer. `write!` is not for it: no contract says that it succeeds where there is room. The kit's crates
+// itoa and hex have such contracts (`write_digits`, `encode_to_slice`), but the repository stands on std alone (README: no dependency).
 ghost use Rattle.std.specs.Prelude.{◌≡◌, [], ◌∷◌, ◌+◌, ◌*◌, ◌≤◌, ◌<◌, length, get_or};
 ghost use Rattle.buffer.specs.Splice.{region};
 ghost use Rattle.linespell.specs.Sizes.{path_limit, length_at, path_at, row_size, reply_limit, row_line_limit};

@@ -3,13 +3,13 @@ use mathlib.Core.Path.{◌≡◌, refl, sym}
 use Rattle.std.proofs.Common.{Option, Some, None}
 use mathlib.Core.Bool.{Bool, true, false, cond}
 use mathlib.Core.List.{List}
-use Prim.Native.Nat.{ℕ, ◌+◌, ◌-◌, ◌≤◌, ◌<◌}
+use Prim.Native.Nat.{ℕ, ◌+◌, ◌-◌, ◌<◌}
 use native.Mathlib.Omega.{arith}
 use lib.ListN.{length, take, drop}
 use borrow.Author.Tests.{lt-ltb, le-ltb}
 use Rattle.buffer.proofs.Lists.{tail_part}
 use Rattle.linefields.specs.Fields.{width}
-use Rattle.logline.specs.Meaning.{Meaning, with_field, with_number, meaning, line_of, Says}
+use Rattle.logline.specs.Meaning.{Meaning, with_field, with_number, Says}
 use Rattle.logline.specs.Meaning.Meaning.{misread, addition, searching}
 use Rattle.logline.specs.declared.command.Command.{Command}
 
@@ -47,10 +47,3 @@ added value reference p path e = rw e
 
 pub sought : (low high : ℕ) (p pattern : List ℕ) → p ≡ pattern → searching low high p ≡ searching low high pattern
 sought low high p pattern e = rw e
-
--- the test on a line's length
-pub longer : (s : List ℕ) → 512 < length s → meaning s ≡ misread
-longer s h = rw (lt-ltb 512 (length s) h)
-
-pub shorter : (s : List ℕ) → length s ≤ 512 → meaning s ≡ line_of s
-shorter s h = rw (le-ltb 512 (length s) h)

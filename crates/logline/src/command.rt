@@ -1,7 +1,7 @@
-// What a line of `fieldlog` asks for.
+// What a line of `fieldlog` asks for. `Add` has no struct of its own: `nivruska::add`, a row and a Key take its fields one by one.
 use rows::sizes::REFERENCE_SIZE;
 
-#[derive(Clone, Copy)]
+#[derive(Clone, Copy, PartialEq, Eq, Debug)]
 pub enum Command<'a> {
     Setup {
         m: u64,

@@ -12,11 +12,12 @@ use logline::sizes::{REPLY_LIMIT, ROW_LINE_LIMIT};
 use nivruska::Reply;
 use rows::sizes::{LENGTH_AT, NODE_SIZE, PATH_AT, PATH_LIMIT, RECORD_SIZE, REFERENCE_AT, ROW_SIZE};
 use std::io;
+use store::front::{ENTRY_ROOM, FRONT_ROOM};
 
 const NODES_AT: usize = ROW_SIZE + 1;
 
 // What a store for M 9 and L 1 needs, and room for its records.
-const STORE_SIZE: usize = 1024 * 9 * 2 + 4096;
+const STORE_SIZE: usize = ENTRY_ROOM * 9 * 2 + FRONT_ROOM;
 
 const ANSWER_SIZE: usize = 9 * RECORD_SIZE;
 
