@@ -6,6 +6,7 @@ use mathlib.Core.List.{List}
 use Prim.Native.Nat.{ℕ, ◌+◌, ◌≤◌, ◌<◌}
 use native.Mathlib.Omega.{arith}
 use lib.ListN.{length, take, drop}
+use lib.Seq.{drop-drop}
 use lib.Dec.{ltb}
 use borrow.Author.Tests.{lt-ltb, le-ltb}
 use Rattle.linefields.specs.Fields.{width, Ends}
@@ -14,12 +15,19 @@ use Rattle.logline.specs.Meaning.Meaning.{misread}
 use Rattle.logline.specs.declared.command.Command.{Command}
 
 module _ (s : List ℕ) (e : ℕ) (ends : Ends s 0 e) where
-  pub field_there : (e ≡ length s → ⊥) → (k : List ℕ → List ℕ → Meaning) → with_field s k ≡ k (take e s) (drop (e + 1) s)
+  field_there : (e ≡ length s → ⊥) → (k : List ℕ → List ℕ → Meaning) → with_field s k ≡ k (take e s) (drop (e + 1) s)
   unfolding with_field
   field_there ne k =
       let w : width s ≡ e = omega arith in
       let t : ltb e (length s) ≡ true = lt-ltb e (length s) (omega arith) in
       rw (w, t)
+
+  -- .. of a line that is read from a on, and n where it is read on
+  pub field_there_at : (l : List ℕ) (a n : ℕ) → s ≡ drop a l → (e ≡ length s → ⊥) → n ≡ a + (e + 1) → (k : List ℕ → List ℕ → Meaning)
+      → with_field (drop a l) k ≡ k (take e s) (drop n l)
+  field_there_at l a n r ne h k =
+      let d : drop n l ≡ drop (e + 1) s = rw (h, r) (sym (drop-drop (e + 1) a l)) in
+      rw (d, ← r) (field_there ne k)
 
   pub field_lost : e ≡ length s → (k : List ℕ → List ℕ → Meaning) → with_field s k ≡ misread
   unfolding with_field
