@@ -1,11 +1,13 @@
 -- What is printed for a search, from the rows in the answer buffer. Assumes nothing.
 use mathlib.Core.Path.{◌≡◌, refl, sym, ap, ap₂, ◌∙◌}
 use mathlib.Core.Bool.{true}
-use Prim.Native.Nat.{ℕ, zero, suc, ◌+◌, ◌*◌, ◌≤◌}
+use Prim.Native.Nat.{ℕ, zero, suc, ◌+◌, ◌*◌, ◌≤◌, ◌<◌}
 use mathlib.Core.List.{List, [], ◌∷◌, ◌++◌, map, append-nil}
 use native.Mathlib.Omega.{arith}
-use native.Mathlib.Nat.{zero-mul, suc-mul, suc-add, min-le_right}
-use lib.Seq.{drop-drop}
+use native.Mathlib.Nat.{min-le_right}
+use lib.Seq.{take-suc}
+use native.Mathlib.Numerals.{add-one}
+use Rattle.std.specs.Simd.{first_chunks}
 use lib.ListN.{length, take, drop, get_or, length-append, length-map, length-drop, length-take}
 use Rattle.buffer.specs.Lists.{All, all, flat}
 use Rattle.buffer.specs.Numbers.{number}
@@ -13,7 +15,7 @@ use Rattle.buffer.specs.Splice.{splice, region}
 use Rattle.rows.specs.Sizes.{value_size, reference_size, reference_at, length_at, path_at, row_size}
 use Rattle.rows.specs.Entry.{Entry, row, entry_of, fits_row}
 use Rattle.rows.specs.Records.{records}
-use Rattle.rows.proofs.Records.{records_joined}
+use Rattle.rows.proofs.Records.{records_joined, records_nth, record_inside}
 use Rattle.rows.proofs.Rows.{all_wide, length_row, entry_of_row}
 use Rattle.logline.specs.Sizes.{row_line_limit}
 use Rattle.logline.specs.Spelling.{entry_line, row_line, Wrote}
@@ -24,14 +26,15 @@ use Rattle.buffer.proofs.Lists.{map_append, flat_append, all_tested, all_head, a
 
 -- ---- rows one after another
 
-pub records_more : (w n : ℕ) (s : List ℕ) → records w (n + 1) s ≡ records w n s ++ (region s (n * w) w ∷ [])
+-- the first chunks of a slice are its records
+pub first_rows : (w n m : ℕ) (s : List ℕ) → n ≤ m → take n (first_chunks w m s) ≡ records w n s
 unfolding records
-records_more w zero s = rw (zero-mul w)
-records_more w (suc n) s =
-    let e : w + n * w ≡ suc n * w = omega (arith, suc-mul n w) in
-    let last : region (drop w s) (n * w) w ≡ region s (suc n * w) w = ap (take w) (drop-drop (n * w) w s ∙ ap (λ (k : ℕ). drop k s) e) in
-    rw (suc-add n 1)
-    (ap (λ (rs : List (List ℕ)). take w s ∷ rs) (records_more w n (drop w s) ∙ ap (λ (x : List ℕ). records w n (drop w s) ++ (x ∷ [])) last))
+first_rows w zero m s h = refl
+first_rows w (suc n) zero s h = absurd (omega arith)
+first_rows w (suc n) (suc m) s h = ap (λ (rs : List (List ℕ)). take w s ∷ rs) (first_rows w n m (drop w s) (omega arith))
+
+pub row_whole : (n : ℕ) (s : List ℕ) → n * row_size ≤ length s → (i : ℕ) → i < n → length (get_or (records row_size n s) i []) ≡ row_size
+row_whole n s room i h = rw (records_nth row_size n s i h) (length_region s (i * row_size) row_size (omega (arith, record_inside i n row_size h)))
 
 pub row_line_length : (r : List ℕ) → length r ≡ row_size → length (row_line r) ≤ row_line_limit
 unfolding entry_line entry_of
@@ -58,17 +61,17 @@ module _ (es : List Entry) (fit : all fits_row es ≡ true) (answer : List ℕ) 
 
 -- ---- row lines written one after another
 
-pub print_none : (out answer : List ℕ) → Wrote out 0 (flat (map row_line (records row_size 0 answer))) out 0
-unfolding records flat
-print_none out answer = record { is = sym (splice_nil out 0); ends = refl; room = omega arith }
-
-pub print_more : (answer : List ℕ) (i : ℕ) {out₀ out out' : List ℕ} {at n : ℕ} → Wrote out₀ 0 (flat (map row_line (records row_size i answer))) out at
-    → Wrote out at (row_line (region answer (i * row_size) row_size)) out' n → Wrote out₀ 0 (flat (map row_line (records row_size (i + 1) answer))) out' n
+pub print_none : (out : List ℕ) → Wrote out 0 (flat (map row_line [])) out 0
 unfolding flat
-print_more answer i {out₀} {out} {out'} {at} {n} a w =
-    let rs = records row_size i answer in
-    let x = region answer (i * row_size) row_size in
-    let e : flat (map row_line (records row_size (i + 1) answer)) ≡ flat (map row_line rs) ++ row_line x =
-    ap (λ (y : List (List ℕ)). flat (map row_line y)) (records_more row_size i answer) ∙ ap flat (map_append row_line rs (x ∷ []))
-    ∙ flat_append (map row_line rs) (row_line x ∷ []) ∙ ap (λ (y : List ℕ). flat (map row_line rs) ++ y) (append-nil (row_line x)) in
+print_none out = record { is = sym (splice_nil out 0); ends = refl; room = omega arith }
+
+pub print_more : (rows : List (List ℕ)) (i : ℕ) → i < length rows → {out₀ out out' : List ℕ} {at n : ℕ} → Wrote out₀ 0 (flat (map row_line (take i rows))) out at
+    → Wrote out at (row_line (get_or rows i [])) out' n → Wrote out₀ 0 (flat (map row_line (take (i + 1) rows))) out' n
+unfolding flat
+print_more rows i h {out₀} {out} {out'} {at} {n} a w =
+    let rs = take i rows in
+    let x = get_or rows i [] in
+    let e : flat (map row_line (take (i + 1) rows)) ≡ flat (map row_line rs) ++ row_line x =
+    rw (add-one, take-suc rows i [] h) (ap flat (map_append row_line rs (x ∷ []))
+    ∙ flat_append (map row_line rs) (row_line x ∷ []) ∙ ap (λ (y : List ℕ). flat (map row_line rs) ++ y) (append-nil (row_line x))) in
     rw e (then a w)

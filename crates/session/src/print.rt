@@ -28,9 +28,9 @@ pub(crate) fn print_rows(answer: &[u8], n: usize, out: &mut [u8]) -> usize
     ensures upper_bound { result ≤ n * row_line_limit }
 {
     let mut at: usize = 0;
-    for i in 0..n {
-        let from = i * ROW_SIZE;
-        at = spell_row(out, at, &answer[from..from + ROW_SIZE]);
+    let (rows, _) = answer.as_chunks::<ROW_SIZE>();
+    for row in &rows[..n] {
+        at = spell_row(out, at, row);
     }
     at
 }

@@ -1,7 +1,9 @@
 -- A reference has 40 digits, and the first 40 are all.
 use native.Mathlib.Omega.{arith}
-use mathlib.Core.Path.{◌≡◌, sym, ◌∙◌}
+use mathlib.Core.Path.{◌≡◌, sym, ap, ◌∙◌}
 use lib.Seq.{take_all}
+use Rattle.std.proofs.Common.{Some}
+use Rattle.linefields.specs.Fields.{unhex}
 use Rattle.linefields.proofs.Scan.{reference_short, reference_length}
 use Rattle.linefields.proofs.fields.reference.Goals as goal
 
@@ -13,4 +15,4 @@ returns c =
     let s = c.args.s.now in
     let r = sym c.is_reference.ensures ∙ c.if-not-is_reference.false in
     let d : c.in_ok-digits.digits.now ≡ s = c.in_ok-digits.ensures.cases.same ∙ take_all 40 s (omega (arith, reference_length s r)) in
-    rw (r, c.unhex.ensures, d)
+    rw r (ap Some (c.unhex.ensures ∙ ap unhex d))

@@ -1,5 +1,9 @@
 -- Seven writers, each where the one before ended.
+use mathlib.Core.Path.{◌≡◌}
 use Rattle.std.proofs.Common.{rules}
+use Rattle.buffer.specs.Numbers.{number}
+use Rattle.buffer.specs.Splice.{region}
+use Rattle.rows.specs.Sizes.{value_size}
 use Rattle.linespell.specs.Spelling.{entry_line}
 use Rattle.rows.specs.Entry.{entry_of}
 use Rattle.linespell.proofs.Writing.{put_then}
@@ -17,4 +21,5 @@ returns c =
     c.put_byte-3.ensures))))) in
     let w = p.wrote in
     let s = p.same in
-    rw (← c.get64-value.ensures, ← c.path_of-path.ensures.1) (search rules)
+    let v : c.get64-value.result ≡ number (region c.args.row.now 0 value_size) = c.get64-value.ensures in
+    rw (← v, ← c.path_of-path.ensures.1) (search rules)
