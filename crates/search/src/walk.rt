@@ -14,7 +14,7 @@ use entries::SLOT_SIZE;
 use gather::known::{Known, ROOT};
 use gather::output::Output;
 use rows::sizes::{NODE_LIMIT, ROW_SIZE, VALUE_SIZE};
-use trie_read::head::{Node, first_node};
+use trie_read::head::{Node, Nodes};
 use trie_read::kind::{Dimension, Kind};
 use trie_read::sizes::SUFFIX_SIZE;
 use trie_read::suffixes::first_suffix;
@@ -90,16 +90,14 @@ fn search_tries(
         return 0;
     }
     let common = ask_once(q, above, key, known);
-    let mut t = tries;
     let mut nodes = 0;
-    while let Some(node) = first_node(t) {
+    for node in Nodes(tries) {
         if let Some(inside) = descend(q, above, key, known, &node, common) {
             nodes += 1 + search_body(q, &node, key, inside, depth - 1, output);
             if common.one {
                 return nodes; // at most one byte leads on, and no sibling has it
             }
         }
-        t = node.rest;
     }
     nodes
 }
