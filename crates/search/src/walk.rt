@@ -20,7 +20,8 @@ use trie_read::sizes::SUFFIX_SIZE;
 use trie_read::suffixes::first_suffix;
 use value_range::value::{first_number, span_behind};
 
-// Puts the rows of the keys found among suffixes.
+// Puts the rows of the keys found among suffixes. Not by a `for` over `Suffixes`: the number is read out of 8 bytes of what is left, which may reach behind
+// the value; out of the value's own bytes it made searches of few rows up to 16 % slower (bench/index).
 fn suffixes(
     q: &Query<'_>,
     body: &[u8],
