@@ -13,9 +13,9 @@ use crate::output::Output;
 use crate::way::{WAY_SIZE, descend};
 use entries::SLOT_SIZE;
 use rows::sizes::NODE_LIMIT;
-use trie_read::head::first_node;
+use trie_read::head::Nodes;
 use trie_read::kind::Kind;
-use trie_read::suffixes::first_suffix;
+use trie_read::suffixes::Suffixes;
 
 // What is written for a key: rows of one width.
 pub trait Format {
@@ -42,12 +42,10 @@ fn suffixes<F: Format>(
     requires { Ready F.width body.now output.old }
     ensures { Walked F.slot_row (SuffixVisits below.nodes (take (node_size * below.nodes) way.now) (known_strings below.known key.old) body.now) below body.now output.old output.new key.old key.new }
 {
-    let mut b = body;
-    while let Some(suffix) = first_suffix(b) {
+    for suffix in Suffixes(body) {
         if compose(key, below.known, &suffix) {
             F::put(output, key, way, below.nodes);
         }
-        b = suffix.rest;
     }
 }
 
@@ -66,14 +64,12 @@ pub fn walk<F: Format>(
     if below.nodes == NODE_LIMIT {
         return;
     }
-    let mut t = tries;
-    while let Some(node) = first_node(t) {
+    for node in Nodes(tries) {
         if let Some(inside) = descend(key, way, below, &node) {
             match node.kind() {
                 Kind::Leaf => suffixes::<F>(node.body, inside, key, way, output),
                 Kind::Inner(_) => walk::<F>(node.body, inside, key, way, output),
             }
         }
-        t = node.rest;
     }
 }

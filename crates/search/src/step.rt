@@ -1,6 +1,7 @@
 // The steps of a search. The key buffer of a walk (crate gather) has the known bytes. What is the same for all children of a node, or for all suffixes
 // of a leaf, is asked once; of a child or a suffix the value is asked first, and its bytes are copied only where they are needed. The form of paths is not
-// looked at: those of a store that our calls left are formed, and of other bytes nothing is said of an answer.
+// looked at: those of a store that our calls left are formed, and of other bytes nothing is said of an answer. The query, the buffer and what is known stay
+// three parameters: the first is only read, the second written by all levels, the third each level's own.
 ghost use Rattle.std.specs.Prelude.{◌≡◌, ◌&&◌, ℕ, ◌+◌, ◌-◌, ◌≤◌, ◌<◌, List, [], ◌∷◌, ◌++◌, length, take};
 ghost use Rattle.buffer.specs.Numbers.{number};
 ghost use Rattle.buffer.specs.Splice.{region, splice};

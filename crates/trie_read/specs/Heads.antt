@@ -1,10 +1,10 @@
 -- What the head of the first node says. Assumes nothing: these are definitions.
-use Rattle.std.specs.Prelude.{ℕ, suc, ◌+◌, ◌<◌, ◌≡◌, List, [], ◌∷◌, ◌++◌, map, length, Option, Some, None, Result, Ok, Err}
+use Rattle.std.specs.Prelude.{ℕ, suc, ◌+◌, ◌<◌, ◌≡◌, List, [], ◌∷◌, ◌++◌, map, length, Option, Some, None, Result, Ok, Err, IfSome, option_map}
 use Rattle.buffer.specs.Numbers.{bytes_of}
 use Rattle.trie_theory.specs.Forest.{Strings, Forest, none, leaf, inner}
 use Rattle.buffer.specs.Lists.{flat}
 use Rattle.trie_theory.specs.Strings.{at}
-use Rattle.trie_theory.specs.Encode.{encode, suffix_bytes}
+use Rattle.trie_theory.specs.Encode.{Regular, encode, suffix_bytes}
 use Rattle.trie_read.specs.Sizes.{head_size}
 use Rattle.trie_read.specs.Kinds.{kind_of_byte}
 use Rattle.trie_read.specs.declared.kind.Kind.{Kind}
@@ -57,6 +57,11 @@ pub record Stands (t : List ℕ) (n : Node) : Type 0 where
   pub long : length t ≡ head_size + length n.value.now + length n.path.now + length n.body.now + length n.rest.now
   pub value_short : length n.value.now < 256
   pub path_short : length n.path.now < 256
+
+-- a walk over the nodes side by side in the bytes t: the first, if any, and the bytes that are left
+pub record NextNode (t : List ℕ) (r : Option Node) (t' : List ℕ) : Type 0 where
+  pub inside : IfSome r (λ n. Stands t n × (t' ≡ n.rest.now))
+  pub value : (f : Forest) → Regular 2 f → t ≡ encode f → option_map head_in r ≡ head_of f
 
 -- a node that is read stands in the bytes; there is none only where they are none
 abbrev pub InBytes : List ℕ → Result (Option Node) Malformed → Type 0

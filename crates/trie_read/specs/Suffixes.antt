@@ -1,11 +1,12 @@
 -- The suffixes of a leaf in bytes, and what the first of them says. Assumes nothing: these are definitions.
-use Rattle.std.specs.Prelude.{ℕ, ◌+◌, ◌<◌, ◌≡◌, List, [], ◌∷◌, ◌++◌, map, length, Option, Some, None, Result, Ok, Err}
+use Rattle.std.specs.Prelude.{ℕ, ◌+◌, ◌<◌, ◌≡◌, List, [], ◌∷◌, ◌++◌, map, length, Option, Some, None, Result, Ok, Err, IfSome, option_map}
 use Rattle.trie_theory.specs.Forest.{Key}
-use Rattle.buffer.specs.Lists.{flat}
+use Rattle.buffer.specs.Lists.{flat, All}
 use Rattle.trie_theory.specs.Strings.{at}
 use Rattle.trie_theory.specs.Encode.{suffix_bytes}
 use Rattle.buffer.specs.Sizes.{reference_size}
 use Rattle.trie_read.specs.Sizes.{suffix_size}
+use Rattle.trie_read.specs.Shape.{Fixed}
 use Rattle.trie_read.specs.declared.suffix.Suffix.{Suffix}
 use Rattle.trie_read.specs.declared.head.Malformed.{Malformed}
 
@@ -42,6 +43,11 @@ pub record SuffixStands (b : List ℕ) (x : Suffix) : Type 0 where
   pub long : length b ≡ suffix_size + length x.value.now + length x.path.now + length x.rest.now
   pub value_short : length x.value.now < 256
   pub path_short : length x.path.now < 256
+
+-- a walk over the suffixes in the bytes b: the first, if any, and the bytes that are left
+pub record NextSuffix (b : List ℕ) (r : Option Suffix) (b' : List ℕ) : Type 0 where
+  pub within : IfSome r (λ x. SuffixStands b x × (b' ≡ x.rest.now))
+  pub value : (ts : List Key) → All Fixed ts → b ≡ suffixes_bytes ts → option_map tail_in r ≡ tail_of ts
 
 -- a suffix that is read stands in the bytes; there is none only where they are none
 abbrev pub WithinBytes : List ℕ → Result (Option Suffix) Malformed → Type 0

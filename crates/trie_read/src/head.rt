@@ -1,9 +1,10 @@
 // Reading the first node of some bytes.
-ghost use Rattle.std.specs.Prelude.{◌≡◌, Ok, IfSome, option_map};
+ghost use Rattle.std.specs.Prelude.{◌≡◌, Ok, IfSome, length, option_map};
+ghost use Rattle.std.specs.Iterator.{at_most};
 ghost use Rattle.trie_theory.specs.Forest.{Forest};
 ghost use Rattle.trie_theory.specs.Encode.{Regular, encode};
 ghost use Rattle.trie_read.specs.Kinds.{kind_of_byte};
-ghost use Rattle.trie_read.specs.Heads.{head_of, head_in, head_told, InBytes, Stands};
+ghost use Rattle.trie_read.specs.Heads.{head_of, head_in, head_told, InBytes, Stands, NextNode};
 
 use crate::kind::Kind;
 use crate::sizes::{BODY_LENGTH_AT, HEAD_SIZE};
@@ -76,4 +77,23 @@ pub fn first_node(t: &[u8]) -> Option<Node<'_>>
     ensures value { (f : Forest) → Regular 2 f → t.now ≡ encode f → option_map head_in result ≡ head_of f }
 {
     read_head(t).unwrap_or(None)
+}
+
+// The nodes side by side, one after another; they end where no node begins, whatever the bytes there are.
+#[derive(Drop)]
+pub struct Nodes<'a>(pub &'a [u8]);
+
+impl<'a> Iterator for Nodes<'a> {
+    type Item = Node<'a>;
+
+    ghost next_gives = { λ s r t. NextNode s.0.now r t.0.now };
+
+    ghost remaining = { λ s. at_most (length s.0.now) };
+
+    #[inline]
+    fn next(&mut self) -> Option<Node<'a>> {
+        let node = first_node(self.0)?;
+        self.0 = node.rest;
+        Some(node)
+    }
 }

@@ -34,7 +34,8 @@ pub fn agrees(nv: &[u8], np: &[u8], value: &[u8], path: &[u8]) -> bool
     value.starts_with(nv) && path.starts_with(np)
 }
 
-// Does the entry stand in the tries of these bytes? On bytes that are no trie's it returns all the same. Three slices and no Key of trie_write, whose
+// Does the entry stand in the tries of these bytes? On bytes that are no trie's it returns all the same. No `for` over `Nodes`: it goes down too, and
+// is then among the children. Three slices and no Key of trie_write, whose
 // strings are at most 255 bytes: here any strings may be asked for.
 pub fn contains(tries: &[u8], value: &[u8], path: &[u8], reference: &[u8]) -> bool
     ensures { (f : Forest) → Regular 2 f → tries.now ≡ encode f → result ≡ member root f (key_of value.now path.now reference.now) }

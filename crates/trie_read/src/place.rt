@@ -19,7 +19,8 @@ pub enum Place {
     Gap(usize),
 }
 
-// Finds it by one pass over the siblings, which stand ascending by their branching bytes.
+// Finds it by one pass over the siblings, which stand ascending by their branching bytes. Not over `Nodes`: where no node begins they end, and here the
+// bytes are refused.
 pub fn find(
     tries: &[u8],
     above: Option<Dimension>,

@@ -1,10 +1,11 @@
 // The suffixes of a leaf, one after another: v | p | reference, 20 bytes | v value bytes | p path bytes.
-ghost use Rattle.std.specs.Prelude.{◌≡◌, List, Ok, IfSome, option_map};
+ghost use Rattle.std.specs.Prelude.{◌≡◌, List, Ok, IfSome, length, option_map};
+ghost use Rattle.std.specs.Iterator.{at_most};
 ghost use Rattle.trie_theory.specs.Forest.{Key};
 ghost use Rattle.buffer.specs.Lists.{All};
 ghost use Rattle.trie_theory.specs.Lookup.{among};
 ghost use Rattle.trie_read.specs.Shape.{Fixed, key_of};
-ghost use Rattle.trie_read.specs.Suffixes.{suffixes_bytes, tail_of, tail_in, tail_told, WithinBytes, SuffixStands};
+ghost use Rattle.trie_read.specs.Suffixes.{suffixes_bytes, tail_of, tail_in, tail_told, WithinBytes, SuffixStands, NextSuffix};
 
 use crate::head::Malformed;
 use crate::sizes::SUFFIX_SIZE;
@@ -44,16 +45,33 @@ pub fn first_suffix(b: &[u8]) -> Option<Suffix<'_>>
     read_suffix(b).unwrap_or(None)
 }
 
+// The suffixes one after another; they end where no suffix begins, whatever the bytes there are.
+#[derive(Drop)]
+pub struct Suffixes<'a>(pub &'a [u8]);
+
+impl<'a> Iterator for Suffixes<'a> {
+    type Item = Suffix<'a>;
+
+    ghost next_gives = { λ s r t. NextSuffix s.0.now r t.0.now };
+
+    ghost remaining = { λ s. at_most (length s.0.now) };
+
+    #[inline]
+    fn next(&mut self) -> Option<Suffix<'a>> {
+        let suffix = first_suffix(self.0)?;
+        self.0 = suffix.rest;
+        Some(suffix)
+    }
+}
+
 // Is a key with these bytes left one of the suffixes?
 pub fn has_suffix(body: &[u8], value: &[u8], path: &[u8], reference: &[u8]) -> bool
     ensures { (ts : List Key) → All Fixed ts → body.now ≡ suffixes_bytes ts → result ≡ among (key_of value.now path.now reference.now) ts }
 {
-    let mut b = body;
-    while let Some(suffix) = first_suffix(b) {
+    for suffix in Suffixes(body) {
         if suffix.is(value, path, reference) {
             return true;
         }
-        b = suffix.rest;
     }
     false
 }

@@ -11,10 +11,7 @@ use Rattle.gather.proofs.keys.suffixes.Given as goal
 abbrev pub invariant-loop-suffix : goal.invariant-loop-suffix
 invariant-loop-suffix g l = record {
   going : Going g.F.Format.slot_row (SuffixVisits l.below.nodes (take (node_size * l.below.nodes) l.way) (known_strings l.below.known l.initial.key) l.body)
-      (SuffixVisits l.below.nodes (take (node_size * l.below.nodes) l.way) (known_strings l.below.known l.initial.key) l.b)
-      l.below l.body l.b l.initial.output l.output l.initial.key l.key;
+      (SuffixVisits l.below.nodes (take (node_size * l.below.nodes) l.way) (known_strings l.below.known l.initial.key) l.suffix-iterator.0.now)
+      l.below l.body l.suffix-iterator.0.now l.initial.output l.output l.initial.key l.key;
   long : length l.key ≡ slot_size;
 }
-
-abbrev pub decreases-loop-suffix : goal.decreases-loop-suffix
-decreases-loop-suffix g l = length l.b

@@ -1,6 +1,5 @@
 -- Each turn finds the keys of one node that a search enters, or passes it (`Going`); what is left of the siblings is shorter, and the depth left falls.
 use Prim.Native.Nat.{◌+◌, ◌*◌}
-use lib.ListN.{length}
 use Rattle.trie_read.specs.Shape.{above_of}
 use Rattle.gather.specs.Walks.{known_strings}
 use Rattle.search.specs.Asks.{asks}
@@ -16,7 +15,4 @@ decreases-search_tries l = 2 * l.depth
 
 abbrev pub invariant-search_tries-loop-node : goal.invariant-search_tries-loop-node
 invariant-search_tries-loop-node l =
-    Going (TriesFound (asks l.q) (above_of l.above) l.depth (known_strings l.known l.initial.key) l.tries) (TriesFound (asks l.q) (above_of l.above) l.depth (known_strings l.known l.initial.key) l.t) l.known l.tries l.t l.initial.output l.output l.initial.key l.key l.nodes
-
-abbrev pub decreases-search_tries-loop-node : goal.decreases-search_tries-loop-node
-decreases-search_tries-loop-node l = length l.t
+    Going (TriesFound (asks l.q) (above_of l.above) l.depth (known_strings l.known l.initial.key) l.tries) (TriesFound (asks l.q) (above_of l.above) l.depth (known_strings l.known l.initial.key) l.node-iterator.0.now) l.known l.tries l.node-iterator.0.now l.initial.output l.output l.initial.key l.key l.nodes

@@ -1,7 +1,6 @@
 -- The suffixes that are passed are not the key; what is left is shorter.
 use mathlib.Core.Path.{◌≡◌}
 use mathlib.Core.List.{List}
-use lib.ListN.{length}
 use Rattle.trie_theory.specs.Forest.{Key}
 use Rattle.buffer.specs.Lists.{All}
 use Rattle.trie_read.specs.Shape.{Fixed, key_of}
@@ -10,7 +9,4 @@ use Rattle.trie_read.proofs.Among.{Among}
 use Rattle.trie_read.proofs.suffixes.has_suffix.Given as goal
 
 abbrev pub invariant-loop-suffix : goal.invariant-loop-suffix
-invariant-loop-suffix l = (ts : List Key) → All Fixed ts → l.body ≡ suffixes_bytes ts → Among (key_of l.value l.path l.reference) l.b ts
-
-abbrev pub decreases-loop-suffix : goal.decreases-loop-suffix
-decreases-loop-suffix l = length l.b
+invariant-loop-suffix l = (ts : List Key) → All Fixed ts → l.body ≡ suffixes_bytes ts → Among (key_of l.value l.path l.reference) l.suffix-iterator.0.now ts
