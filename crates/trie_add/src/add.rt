@@ -10,9 +10,12 @@ use trie_read::kind::{Dimension, Kind};
 use trie_read::lookup::agrees;
 use trie_read::node_place::NodePlace;
 use trie_read::place::{Place, find};
-use trie_read::sizes::HEAD_SIZE;
+use trie_read::sizes::{HEAD_SIZE, LEAF_SIZE};
 use trie_write::insert::{NewLeaf, NewSuffix, insert};
 use trie_write::key::Key;
+
+// The most bytes that an addition takes beside those of the key: a leaf, and the front of a parent.
+pub const GROWTH_SIZE: usize = HEAD_SIZE + LEAF_SIZE;
 
 // The leaf gets a suffix more.
 fn add_suffix(s: &mut [u8], node: &NodePlace, used: usize, key: &Key<'_>) -> usize
