@@ -1,4 +1,5 @@
-// The addition of a key to tries side by side, in place: down while strings agree, and back with the lengths of the nodes passed.
+// The addition of a key to tries side by side, in place: down while strings agree, and back with the lengths of the nodes passed. They take the count that
+// each function returns, so a struct of `s` and `used` would spare a parameter and add two facts to each contract (trie_write's `insert` says which).
 ghost use Rattle.std.specs.Prelude.{◌≡◌, ℕ, ◌≤◌};
 ghost use Rattle.trie_read.specs.declared.kind.Kind.TheVariants.{Leaf};
 ghost use Rattle.trie_write.specs.Keys.{spelled};
