@@ -2,7 +2,7 @@
 #![tactic(auto)]
 
 use rows::sizes::NODE_LIMIT;
-use trie_read::sizes::{HEAD_SIZE, LEAF_SIZE};
+use trie_add::add::{GROWTH_SIZE, add};
 use trie_write::key::Key;
 
 // Adds a key to the trie in the first `used` bytes, and returns by how many bytes it is longer.
@@ -29,7 +29,7 @@ pub extern "C" fn bench_add(
     if s.len() < used {
         return 0;
     }
-    if s.len() - used < HEAD_SIZE + LEAF_SIZE + value.len() + path.len() {
+    if s.len() - used < GROWTH_SIZE + value.len() + path.len() {
         return 0;
     }
     let key = Key {
@@ -37,5 +37,5 @@ pub extern "C" fn bench_add(
         path,
         reference,
     };
-    trie_add::add::add(s, 0, used, used, None, NODE_LIMIT, &key)
+    add(s, 0, used, used, None, NODE_LIMIT, &key)
 }

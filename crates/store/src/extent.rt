@@ -8,7 +8,8 @@ ghost use Rattle.trie_theory.specs.Encode.{Regular, encode};
 use buffer::numbers::get32;
 use trie_read::sizes::{BODY_LENGTH_AT, HEAD_SIZE};
 
-// The end of the root, or 0 where it has none within the region.
+// How many bytes the trie takes: those to the end of its root. Where no root stands within the region this is the empty trie, whose length is 0 by
+// `value`, so an Option would say that length in a second way.
 pub fn trie_length(t: &[u8]) -> usize
     ensures upper_bound { result ≤ length t.now }
     ensures value { (f : Forest) (n : ℕ) → Sound 2 root f → Regular 2 f → t.now ≡ encode f ++ replicate n 0 → result ≡ length (encode f) }

@@ -1,6 +1,8 @@
 // Why a call is refused.
-ghost use Rattle.std.specs.Prelude.{◌≡◌};
+ghost use Rattle.std.specs.Prelude.{◌≡◌, Ok, Err};
+ghost use Rattle.matcher.specs.declared.form.FormError.TheVariants.{TooLong, Malformed};
 
+use matcher::form::FormError;
 use std::error::Error;
 use std::fmt;
 
@@ -74,3 +76,20 @@ impl fmt::Display for Refusal {
 }
 
 impl Error for Refusal {}
+
+// Refuses a path or a pattern that is not formed, by the one or the other of its two reasons.
+pub fn refuse_unformed(
+    form: Result<(), FormError>,
+    too_long: Refusal,
+    malformed: Refusal,
+) -> Result<(), Refusal>
+    ensures fine { form ≡ Ok tt → result ≡ Ok tt }
+    ensures long { form ≡ Err TooLong → result ≡ Err too_long }
+    ensures bad { form ≡ Err Malformed → result ≡ Err malformed }
+{
+    match form {
+        Ok(()) => Ok(()),
+        Err(FormError::TooLong) => Err(too_long),
+        Err(FormError::Malformed) => Err(malformed),
+    }
+}

@@ -5,6 +5,11 @@ use Prim.Native.Nat.{ℕ, zero, suc, ◌+◌, ◌-◌, ◌≤◌}
 use mathlib.Core.List.{List, [], ◌∷◌}
 use native.Mathlib.Omega.{arith}
 use native.Mathlib.Numerals.{add-one}
+use lib.ListN.{length}
+use Rattle.std.specs.Prelude.{◌<◌, slice_index_or}
+use Rattle.std.specs.Bool.{MatchBool}
+use Rattle.std.specs.List.{range_with_len, HoldsAt, AllWithin}
+use Rattle.std.proofs.lemmas.List.FromFn.{length-range_with_len, get_or-range_with_len}
 use Rattle.buffer.specs.Lists.{any}
 use Rattle.buffer.proofs.Lists.{any_append}
 use Rattle.buffer.proofs.Tests.{or_left, or_right, or_false}
@@ -39,22 +44,41 @@ next p t k =
     ∙ ap (λ (b : Bool). any p (up_to k t) || b) (any_one p (numbered t k))
 
 module _ (m l : ℕ) (x : Key) (store : List ℕ) where
-  pub looked_none : InFirst m l 0 x store false
+  looked_none : InFirst m l 0 x store false
   looked_none f t em el g h = sym (any_none (λ g. member root g x))
 
-  pub looked_next : (k : ℕ) (r : Bool) → InFirst m l k x store false → InTrie m l k x store r → r ≡ false → InFirst m l (k + 1) x store false
-  looked_next k r a b e f t em el g h =
-      sym (next (λ g. member root g x) t k ∙ or_false _ _ (sym (a f t em el g h)) (or_false _ _ (sym (b f t em el g h) ∙ e) refl))
+  looked_next : (k : ℕ) → InFirst m l k x store false → InTrie m l k x store false → InFirst m l (k + 1) x store false
+  looked_next k a b f t em el g h =
+      sym (next (λ g. member root g x) t k ∙ or_false _ _ (sym (a f t em el g h)) (or_false _ _ (sym (b f t em el g h)) refl))
 
-  pub looked_found : (k : ℕ) (r : Bool) → k ≤ l → InTrie m l k x store r → r ≡ true → LookedUp m l x store true
-  looked_found k r low b e f t em el g h =
+  looked_found : (k : ℕ) → k ≤ l → InTrie m l k x store true → LookedUp m l x store true
+  looked_found k low b f t em el g h =
       let p : Forest → Bool = λ g. member root g x in
       let z : k + 1 + (l - k) ≡ l + 1 = omega arith in
-      let here : any p (up_to (k + 1) t) ≡ true = next p t k ∙ or_right (any p (up_to k t)) _ (or_left _ false (sym (b f t em el g h) ∙ e)) in
+      let here : any p (up_to (k + 1) t) ≡ true = next p t k ∙ or_right (any p (up_to k t)) _ (or_left _ false (sym (b f t em el g h))) in
       sym (ap (λ (i : ℕ). any p (up_to i t)) (sym (z ∙ add-one l)) ∙ any_more p t (k + 1) (l - k) here)
 
-  pub looked_all : (k : ℕ) → k ≡ l + 1 → InFirst m l k x store false → LookedUp m l x store false
-  looked_all k z a f t em el g h = a f t em el g h ∙ ap (λ (i : ℕ). any (λ g. member root g x) (up_to i t)) (z ∙ add-one l)
+  looked_first : (n : ℕ) → ((k : ℕ) → k < n → InTrie m l k x store false) → InFirst m l n x store false
+  looked_first zero all = looked_none
+  looked_first (suc n) all =
+      subst (λ (i : ℕ). InFirst m l i x store false) (add-one n) (looked_next n (looked_first n (λ k h. all k (omega arith))) (all n (omega arith)))
+
+  -- trie i of the tries, as they are counted
+  counted : (n i : ℕ) → i < n → slice_index_or (range_with_len 0 n) i 0 ≡ i
+  counted n i h = omega (arith, get_or-range_with_len 0 n i 0 h)
+
+  -- what `any` says of them
+  pub looked : (r : Bool) (n : ℕ) → n ≡ l + 1
+      → MatchBool r ((k : ℕ) × (k < length (range_with_len 0 n)) × HoldsAt (λ i. InTrie m l i x store true) (range_with_len 0 n) k)
+      (AllWithin (λ i. InTrie m l i x store false) (range_with_len 0 n) 0 (length (range_with_len 0 n)))
+      → LookedUp m l x store r
+  looked true n e a =
+      let low : a.0 < n = omega (arith, length-range_with_len 0 n, a.1) in
+      looked_found a.0 (omega arith) (subst (λ (i : ℕ). InTrie m l i x store true) (counted n a.0 low) (a.2 0))
+  looked false n e a =
+      let none : InFirst m l n x store false =
+      looked_first n (λ k h. subst (λ (i : ℕ). InTrie m l i x store false) (counted n k h) (a k 0 (omega arith) (omega (arith, length-range_with_len 0 n)))) in
+      subst (λ (i : ℕ). InFirst m l i x store false) (e ∙ add-one l) none
 
   -- trie k, from its bytes
   pub in_part : (k : ℕ) (bytes : List ℕ) (r : Bool) → k ≤ l → TrieIs store m l k bytes

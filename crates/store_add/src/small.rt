@@ -6,12 +6,8 @@ ghost use Rattle.trie_write.specs.Keys.{spelled};
 
 use rows::sizes::NODE_LIMIT;
 use store::front::{ENTRY_ROOM, FRONT_ROOM, Front};
-use trie_add::add::add;
-use trie_read::sizes::{HEAD_SIZE, LEAF_SIZE};
+use trie_add::add::{GROWTH_SIZE, add};
 use trie_write::key::Key;
-
-// The most bytes that an addition takes beside those of the key.
-const GROWTH_SIZE: usize = HEAD_SIZE + LEAF_SIZE;
 
 // Adds a key to the small trie, which has `used` bytes. Where there is no room for it, which no store of ours comes to, nothing is changed.
 pub(crate) fn add_small(store: &mut [u8], front: Front, used: usize, key: &Key<'_>)

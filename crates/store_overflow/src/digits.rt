@@ -8,10 +8,5 @@ pub(crate) fn first_empty(l: usize, n: usize) -> Option<usize>
     requires { l ≤ l_limit }
     ensures { FirstEmpty l n result }
 {
-    for j in 0..l {
-        if (n >> j) % 2 == 0 {
-            return Some(j);
-        }
-    }
-    None
+    (0..l).find(|j| (n >> *j) % 2 == 0)
 }

@@ -1,4 +1,5 @@
-// The addition of a key to tries side by side, in place: down while strings agree, and back with the lengths of the nodes passed.
+// The addition of a key to tries side by side, in place: down while strings agree, and back with the lengths of the nodes passed. They take the count that
+// each function returns, so a struct of `s` and `used` would spare a parameter and add two facts to each contract (trie_write's `insert` says which).
 ghost use Rattle.std.specs.Prelude.{◌≡◌, ℕ, ◌≤◌};
 ghost use Rattle.trie_read.specs.declared.kind.Kind.TheVariants.{Leaf};
 ghost use Rattle.trie_write.specs.Keys.{spelled};
@@ -10,9 +11,12 @@ use trie_read::kind::{Dimension, Kind};
 use trie_read::lookup::agrees;
 use trie_read::node_place::NodePlace;
 use trie_read::place::{Place, find};
-use trie_read::sizes::{BODY_LENGTH_AT, HEAD_SIZE};
+use trie_read::sizes::{BODY_LENGTH_AT, HEAD_SIZE, LEAF_SIZE};
 use trie_write::insert::{NewLeaf, NewSuffix, insert};
 use trie_write::key::Key;
+
+// The most bytes that an addition takes beside those of the key: a leaf, and the front of a parent.
+pub const GROWTH_SIZE: usize = HEAD_SIZE + LEAF_SIZE;
 
 // The leaf gets a suffix more.
 fn add_suffix(s: &mut [u8], node: &NodePlace, used: usize, key: &Key<'_>) -> usize

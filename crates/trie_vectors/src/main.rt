@@ -16,9 +16,9 @@ use console::Console;
 use logline::command::Command;
 use rows::sizes::{NODE_LIMIT, PATH_LIMIT, REFERENCE_SIZE, VALUE_SIZE};
 use std::io;
+use trie_add::add::{GROWTH_SIZE, add};
 use trie_read::head::{Malformed, Node, read_head};
 use trie_read::kind::{Dimension, Kind};
-use trie_read::sizes::{HEAD_SIZE, LEAF_SIZE};
 use trie_read::suffix::Suffix;
 use trie_read::suffixes::read_suffix;
 use trie_write::key::Key;
@@ -26,9 +26,6 @@ use trie_write::key::Key;
 const INPUT_SIZE: usize = 262144;
 
 const REGION_SIZE: usize = 65536;
-
-// The most that an addition adds beside the key's bytes: a leaf and a parent.
-const GROWTH: usize = LEAF_SIZE + HEAD_SIZE;
 
 fn is_plain(b: u8) -> bool {
     b > b' ' && b < 127 && b != b'"' && b != b'%'
@@ -161,11 +158,11 @@ impl Trie {
 
     fn add(&mut self, console: &mut Console, key: &Key<'_>) {
         let used = self.used;
-        if REGION_SIZE - used < GROWTH + key.size() {
+        if REGION_SIZE - used < GROWTH_SIZE + key.size() {
             console.print(b"full\n");
             return;
         }
-        self.used += trie_add::add::add(&mut self.bytes, 0, used, used, None, NODE_LIMIT, key);
+        self.used += add(&mut self.bytes, 0, used, used, None, NODE_LIMIT, key);
     }
 
     // An entry as a key: its value in bytes, its path with the end byte.

@@ -1,4 +1,5 @@
-// Insertions: what stands behind the place moves on, up to `used`, and the new bytes go into the room.
+// Insertions: what stands behind the place moves on, up to `used`, and the new bytes go into the room. `s` and `used` are no struct, which was tried here: each
+// contract says two facts more of it (what is used then, and that the bytes are the same loan), and the count is returned all the same.
 ghost use Rattle.std.specs.Prelude.{◌≡◌, ℕ, List, ◌+◌, ◌-◌, ◌≤◌, ◌++◌, length};
 ghost use Rattle.buffer.specs.Splice.{splice, region};
 ghost use Rattle.trie_theory.specs.Forest.{none, Key as TrieKey};

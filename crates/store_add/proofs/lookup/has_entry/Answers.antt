@@ -1,18 +1,18 @@
--- None of the first k tries has it.
-use native.Mathlib.Omega.{arith}
-use Rattle.store_add.proofs.Looking.{looked_none, looked_next, looked_found, looked_all, in_part}
+-- Some trie has it, or none.
+use Rattle.std.specs.Prelude.{true, false}
+use Rattle.std.proofs.Common.{rules, tests, arith}
+use mathlib.Core.Path.{refl}
+use Rattle.std.proofs.lemmas.Iterator.{YieldsList-from_range, cases_from_any}
+use Rattle.store_add.specs.Placed.{InTrie}
+use Rattle.trie_write.specs.Keys.{spelled}
+use Rattle.store_add.proofs.Looking.{looked}
 use Rattle.store_add.proofs.lookup.has_entry.Goals as goal
 
-pub loop-k-init : goal.loop-k-init
-loop-k-init c = looked_none _ _ _ _
-
-pub returns-then-contains : goal.returns-then-contains
-returns-then-contains c =
-    looked_found _ _ _ _ c.loop-k.k _ (omega arith) (in_part _ _ _ _ c.loop-k.k _ _ (omega arith) c.trie.ensures c.contains.ensures) c.if-contains.true
-
-pub loop-k-preserved : goal.loop-k-preserved
-loop-k-preserved c =
-    looked_next _ _ _ _ c.loop-k.k _ c.loop-k.invariant (in_part _ _ _ _ c.loop-k.k _ _ (omega arith) c.trie.ensures c.contains.ensures) c.if-contains.false
-
 pub returns : goal.returns
-returns c = looked_all _ _ _ _ c.loop-k.k (omega arith) c.loop-k.invariant
+returns c =
+    let a = c.args in
+    let f = a.store.now.front in
+    looked _ _ _ _ _ _ (omega arith) (cases_from_any _ _ _
+    (λ k. InTrie f.m f.l k (spelled a.key.now) a.store.now.bytes.now true)
+    (λ k. InTrie f.m f.l k (spelled a.key.now) a.store.now.bytes.now false)
+    c.any.ensures.ran (YieldsList-from_range 0 _ _ refl refl) (λ x q k. search (rules, tests)) (λ x q k. (search (rules, tests), search (rules, tests))))

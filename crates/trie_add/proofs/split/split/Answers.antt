@@ -2,7 +2,7 @@
 use native.Mathlib.Omega.{arith}
 use Prim.Native.Nat.{ℕ, ◌+◌, ◌-◌, ◌≤◌}
 use mathlib.Core.Path.{◌≡◌, refl, sym, ap, ◌∙◌}
-use mathlib.Core.Bool.{Bool, true, false, cond}
+use mathlib.Core.Bool.{cond}
 use mathlib.Core.List.{List}
 use lib.ListN.{length, drop, length-drop}
 use Rattle.buffer.specs.Splice.{region}
@@ -15,11 +15,6 @@ use Rattle.trie_read.specs.Kinds.{byte_of_kind}
 use Rattle.trie_read.proofs.KindBytes.{byte_back, inner_number}
 use Rattle.trie_add.proofs.split.split.Goals.{After-put_parent, then-cut, else-cut}
 use Rattle.trie_add.proofs.split.split.Goals as goal
-
--- one of two places that are both inside
-inside : (t : Bool) (r a b n : ℕ) → r ≡ cond t a b → a ≤ n → b ≤ n → r ≤ n
-inside true r a b n e h k = omega arith
-inside false r a b n e h k = omega arith
 
 split_length : (s : List ℕ) (n : ℕ) → n ≤ length s → length s ≡ n + length (drop n s)
 split_length s n h = omega (arith, length-drop n s)
@@ -37,26 +32,9 @@ placed c =
       | else-cut w ↦ rw w.if-cut.false w.place-is
     ]
 
-pub insert-requires : goal.insert-requires
-insert-requires c =
-    let cut = c.cut_for-cut.ensures in
-    let pre = c.requires in
-    let a = c.args in
-    let n = a.node.now in
-    let x = c.cut_for-cut.result.value in
-    let y = c.cut_for-cut.result.path in
-    let s = a.s.now in
-    let lv = length_part s (n.at + 7) n.path (omega (arith, pre, n.body_behind, n.next_behind)) in
-    let lp = length_part s n.path n.body (omega (arith, pre, n.next_behind)) in
-    let i : c.if-cut.place ≤ a.used + 7 = inside c.cut_for-cut.result.first c.if-cut.place (n.at + 7 + (x + y)) (n.next + 7) (a.used + 7) (placed (goal.at.insert-requires c).After-put_parent) (omega (arith, cut, pre, lv, lp, n.path_behind, n.body_behind, n.next_behind)) (omega (arith, pre)) in
-    let left = c.rest-left.ensures in
-    let dv = ap length left.0 ∙ length-drop x a.key.now.value.now in
-    let dp = ap length left.1 ∙ length-drop y a.key.now.path.now in
-    (i, omega (arith, dv, dp, pre))
-
-pub returns : goal.returns
+pub returns-clause-replaced : goal.returns-clause-replaced
 unfolding fronts
-returns c =
+returns-clause-replaced c =
     let a = c.args in
     let pre = c.requires in
     let n = a.node.now in
@@ -75,13 +53,11 @@ returns c =
     let dv = length-drop x k.value.now in
     let dp = length-drop y k.path.now in
     let inserted = rw (left.0, left.1, left.2) at c.insert.ensures.s_after in
-    let long = rw (left.0, left.1) at c.size-n.ensures in record {
-      upper_bound = omega (arith, long, dv, dp);
-      replaced = resized
-          (split_done (above_of a.above) (byte_of_kind n.kind) nv np body k.value.now k.path.now k.reference.now k.twenty x y cut.in_value cut.in_path
-          s _ _ n.at n.body n.next a.used (omega (arith, n.path_behind, n.body_behind), n.next_behind, pre.0, omega (arith, pre, cut, dv, dp)) refl (omega (arith, lv, lp, n.path_behind, n.body_behind)) cut.node_value cut.node_path
-          _ _ _ (ap byte_of_kind cut.branches ∙ byte_back _)
-          (rw long (size_is n.at n.body n.next x y (length nv) (length np) (length body) _ _ _ _ (split_length nv x cut.node_value) (split_length np y cut.node_path) (omega (arith, lv, lp, n.path_behind, n.body_behind)) (omega (arith, lb, n.next_behind))))
-          (sym lb) c.put_parent.ensures c.cut_for-cut.result.dimension (inner_number _ _ (sym cut.branches)) _ _ cut.before (placed (goal.at.returns c).After-put_parent) inserted)
-          (omega (arith, long));
-    }
+    let long = rw (left.0, left.1) at c.size-n.ensures in
+    resized
+    (split_done (above_of a.above) (byte_of_kind n.kind) nv np body k.value.now k.path.now k.reference.now k.twenty x y cut.in_value cut.in_path
+    s _ _ n.at n.body n.next a.used (omega (arith, n.path_behind, n.body_behind), n.next_behind, pre.0, omega (arith, pre, cut, dv, dp)) refl (omega (arith, lv, lp, n.path_behind, n.body_behind)) cut.node_value cut.node_path
+    _ _ _ (ap byte_of_kind cut.branches ∙ byte_back _)
+    (rw long (size_is n.at n.body n.next x y (length nv) (length np) (length body) _ _ _ _ (split_length nv x cut.node_value) (split_length np y cut.node_path) (omega (arith, lv, lp, n.path_behind, n.body_behind)) (omega (arith, lb, n.next_behind))))
+    (sym lb) c.put_parent.ensures c.cut_for-cut.result.dimension (inner_number _ _ (sym cut.branches)) _ _ cut.before (placed (goal.at.returns-clause-replaced c).After-put_parent) inserted)
+    (omega (arith, long))

@@ -24,6 +24,3 @@ pub returns-in-Some-Path-clause-value : goal.returns-in-Some-Path-clause-value
 returns-in-Some-Path-clause-value c =
     let q : c.in-Some-Path.field-0 ≡ Path = rw c.in-Some-Path.is at c.in-Some-Path.field-0-is in
     rw (c.in-Some-Path.is, q, below_path _ _) c.first_differing.ensures.value
-
-pub returns-in-None-clause-value : goal.returns-in-None-clause-value
-returns-in-None-clause-value c = rw c.in-None.is c.first_differing-in-None.ensures.value

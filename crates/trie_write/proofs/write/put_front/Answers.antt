@@ -2,7 +2,7 @@
 use native.Mathlib.Omega.{arith}
 use mathlib.Core.Path.{◌≡◌, ap, ◌∙◌}
 use mathlib.Core.List.{List, [], ◌∷◌, ◌++◌, append_assoc}
-use lib.ListN.{length, length-set, length-append}
+use lib.ListN.{length, length-append}
 use Rattle.buffer.specs.Splice.{splice}
 use Rattle.buffer.specs.Numbers.{bytes_of}
 use Rattle.buffer.proofs.Splice.{splice_then}
@@ -15,24 +15,6 @@ use Rattle.trie_write.proofs.write.put_front.Goals as goal
 front_parts : (k : ℕ) (v p : List ℕ) (n : ℕ) → (((k ∷ length v ∷ length p ∷ []) ++ bytes_of 4 n) ++ v) ++ p ≡ front k (v ∷ p ∷ []) n
 unfolding front
 front_parts k v p n = simp append_assoc
-
-pub bounds-s-at-2 : goal.bounds-s-at-2
-bounds-s-at-2 c = simp length-set (omega arith)
-
-pub bounds-s-at-3 : goal.bounds-s-at-3
-bounds-s-at-3 c = simp length-set (omega arith)
-
-pub put32-requires : goal.put32-requires
-put32-requires c = simp length-set (omega arith)
-
-pub copy_from-requires : goal.copy_from-requires
-copy_from-requires c = omega (arith, simp length-set at c.put32.auto.s)
-
-pub copy_from-requires-2 : goal.copy_from-requires-2
-copy_from-requires-2 c = omega (arith, c.copy_from.auto.s, simp length-set at c.put32.auto.s)
-
-pub shape_of-s : goal.shape_of-s
-shape_of-s c = c.copy_from-2.auto.s ∙ c.copy_from.auto.s ∙ simp length-set at c.put32.auto.s
 
 pub returns : goal.returns
 returns c =

@@ -3,7 +3,7 @@ use native.Mathlib.Omega.{arith}
 use Prim.Native.Nat.{ℕ}
 use mathlib.Core.Path.{◌≡◌, ap, ◌∙◌}
 use mathlib.Core.List.{List, [], ◌∷◌, ◌++◌, append_assoc, append-nil}
-use lib.ListN.{length, length-set, length-append}
+use lib.ListN.{length, length-append}
 use Rattle.buffer.specs.Splice.{splice}
 use Rattle.buffer.proofs.Splice.{splice_then}
 use Rattle.buffer.proofs.Turns.{set_2}
@@ -15,21 +15,6 @@ use Rattle.trie_write.proofs.write.put_suffix.Goals as goal
 suffix_parts : (v p r : List ℕ) → (((length v ∷ length p ∷ []) ++ r) ++ v) ++ p ≡ suffix_bytes (key_of v p r)
 unfolding suffix_bytes flat
 suffix_parts v p r = simp (append_assoc, append-nil)
-
-pub bounds-s-at-2 : goal.bounds-s-at-2
-bounds-s-at-2 c = simp length-set (omega arith)
-
-pub copy_from-requires : goal.copy_from-requires
-copy_from-requires c = simp length-set (omega arith)
-
-pub copy_from-requires-2 : goal.copy_from-requires-2
-copy_from-requires-2 c = omega (arith, simp length-set at c.copy_from.auto.s)
-
-pub copy_from-requires-3 : goal.copy_from-requires-3
-copy_from-requires-3 c = omega (arith, c.copy_from-2.auto.s, simp length-set at c.copy_from.auto.s)
-
-pub shape_of-s : goal.shape_of-s
-shape_of-s c = c.copy_from-3.auto.s ∙ c.copy_from-2.auto.s ∙ simp length-set at c.copy_from.auto.s
 
 pub returns : goal.returns
 returns c =
