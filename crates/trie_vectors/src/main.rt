@@ -11,6 +11,7 @@
 
 ghost use Rattle.std.specs.Prelude.{◌+◌, ◌≤◌, ◌<◌, length};
 ghost use Rattle.buffer.specs.Sizes.{four_byte_limit};
+ghost use Rattle.trie_vectors.specs.declared.TheConstants.{REGION_SIZE};
 
 use console::Console;
 use logline::command::Command;
@@ -126,7 +127,7 @@ fn print_title(console: &mut Console, line: &[u8]) {
 struct Trie {
     bytes: [u8; REGION_SIZE],
     used: usize,
-    ghost fits: { used ≤ 65536 },
+    ghost fits: { used ≤ REGION_SIZE },
 }
 
 impl Trie {
