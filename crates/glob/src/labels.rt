@@ -82,8 +82,8 @@ impl<'a> Iterator for Labels<'a> {
         if self.is_empty() {
             return None;
         }
-        let (label, others) = self.split_first();
-        *self = others;
-        Some(label)
+        let (first, rest) = self.split_first();
+        *self = rest;
+        Some(first)
     }
 }
