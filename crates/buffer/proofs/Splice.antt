@@ -6,7 +6,7 @@ use mathlib.Core.List.{List, [], ◌∷◌, ◌++◌, append_assoc, append-nil}
 use native.Mathlib.Omega.{arith}
 use native.Mathlib.Nat.{add_assoc, add-zero}
 use native.Mathlib.Numerals.{add-one}
-use lib.ListN.{length, get_or, take, drop, set, length-append, length-take, length-drop, take-append-drop, drop_of_length-le, get_or-append}
+use lib.ListN.{length, get_or, take, drop, set, length-append, length-take, length-drop, take-append-drop, drop_of_length-le}
 use lib.Seq.{drop_at, take_at, take-append-le, drop-append-le, take-take, drop-drop, take-add, set_split, get_or-drop, get_or-take, take-suc, take_all, drop-cons, length-take-le}
 use borrow.Rule.Slice.PartMut.{put_mid}
 use Rattle.buffer.specs.Splice.{splice, region}
@@ -91,9 +91,6 @@ module _ (s : List ℕ) (o : ℕ) (b : List ℕ) (fit : o + length b ≤ length 
       let front : i ≤ length b = omega arith in
       let room : n ≤ length (drop i b) = rw length-drop (omega arith) in
       rw (← drop-drop i o (splice s o b), drop_at_splice s o b fit, drop-append-le i b, take-append-le n (drop i b))
-
-  pub get_d_inside : (i : ℕ) → i < length b → get_or (splice s o b) (o + i) 0 ≡ get_or b i 0
-  get_d_inside i h = rw (← get_or-drop o (splice s o b) i 0, drop_at_splice s o b fit) (get_or-append b _ 0 i h)
 
   pub get_d_before : (i : ℕ) → i < o → get_or (splice s o b) i 0 ≡ get_or s i 0
   get_d_before i h =

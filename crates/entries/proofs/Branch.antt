@@ -1,10 +1,11 @@
 -- The test of a branch decides what document 01 says, a matching key is never passed over, and whole keys match as their entries do.
 -- Assumes nothing.
 use Prim.Native.Nat.{ℕ, zero, suc, ◌+◌, ◌*◌, ◌-◌, ◌^◌, ◌≤◌, ◌<◌}
-use mathlib.Core.Path.{◌≡◌, refl, sym, ap, ◌∙◌}
-use mathlib.Core.Bool.{Bool, true, false, cond, and_comm}
+use mathlib.Core.Path.{◌≡◌, refl, sym, ap, ap₂, ◌∙◌}
+use mathlib.Core.Bool.{Bool, true, false, cond, ◌&&◌, and_comm}
 use mathlib.Core.List.{List, [], ◌∷◌, ◌++◌, append_assoc}
 use native.Mathlib.Omega.{arith}
+use Rattle.std.proofs.lemmas.List.{length-reverse, reverse-reverse}
 use Rattle.std.proofs.lemmas.Bool.Decides.{nat_tests}
 use native.Mathlib.Nat.{zero-mul, pow-suc, one-le-pow, zero-lt-suc}
 use lib.ListN.{length, drop, replicate, length-append, length-replicate}
@@ -230,15 +231,10 @@ match_when : (b : Bool) → is_match (cond b Match Mismatch) ≡ b
 match_when true = refl
 match_when false = refl
 
--- a whole value is in range or not
-module _ (q : Query) (v : ℕ) where
-  abbrev whole : List ℕ
-  whole = bytes_of value_size v
-
+-- a whole value, of 8 bytes, is in range or not
+module _ (q : Query) (v : ℕ) (whole : List ℕ) (eight : length whole ≡ value_size) (n : number whole ≡ v) where
   overlaps_whole : overlaps q whole ≡ in_range q v
   overlaps_whole =
-      let eight : length whole ≡ value_size = length_bytes_of value_size v in
-      let n : number whole ≡ v = number_bytes_of 7 v in
       let low : lowest whole ≡ v = lowest_is whole ∙ rw (eight, n) (omega arith) in
       let high : highest whole ≡ v = let h : highest whole + 1 ≡ v * 1 + 1 = highest_is whole ∙ rw (eight, n) in omega arith in
       bool_ext _ _
@@ -248,7 +244,7 @@ module _ (q : Query) (v : ℕ) where
 
   value_whole : is_match (value_reach q whole) ≡ in_range q v
   unfolding value_reach
-  value_whole = rw (overlaps_whole, length_bytes_of value_size v) (match_when (in_range q v))
+  value_whole = rw (overlaps_whole, eight) (match_when (in_range q v))
 
 path_whole : (pattern path : List ℕ) → is_fine (path_form path) ≡ true → is_match (reach_of pattern (path ++ (end_byte ∷ []))) ≡ matches pattern path
 path_whole pattern path f = ap is_match (reach_path pattern path f) ∙ match_when (matches pattern path)
@@ -256,4 +252,7 @@ path_whole pattern path f = ap is_match (reach_path pattern path f) ∙ match_wh
 -- THE KEY OF AN ENTRY MATCHES AS THE ENTRY DOES
 pub wants_entry : (q : Query) (e : Entry) → is_fine (path_form e.path) ≡ true → wants q (entry_key e) ≡ matches_entry q e
 unfolding wants matches_entry entry_key
-wants_entry q e f = rw (value_whole q e.value, path_whole q.pattern e.path f) (and_comm (in_range q e.value) (matches q.pattern e.path))
+wants_entry q e f = -- by what the bytes of the value are, not by how they are spelled
+    let eight : length (at 0 (entry_key e).strings) ≡ value_size = grind (arith, length_bytes_of, length-reverse) in
+    let n : number (at 0 (entry_key e).strings) ≡ e.value = grind (arith, number_bytes_of, reverse-reverse) in
+    ap₂ ◌&&◌ (value_whole q e.value (at 0 (entry_key e).strings) eight n) (path_whole q.pattern e.path f) ∙ and_comm (in_range q e.value) (matches q.pattern e.path)

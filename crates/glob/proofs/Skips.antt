@@ -21,9 +21,6 @@ module _ (Off : ℕ → Type 0) (n from : ℕ) where
         each = λ j g h. elim (dec_le i j) [ yes z ↦ f j z h | no z ↦ a.each j g (lt_of_not-le z) ];
       }
 
-  pub skip_on : (i : ℕ) → i ≤ n → Off i → Skipped Off n from i → Skipped Off n from (i + 1)
-  skip_on i l e = skip_to i (i + 1) (omega arith) (omega arith) (λ j g h. subst Off (omega arith) e)
-
   -- what passes on from each place to the next passes on over all of them
   pub through : (T : ℕ → Type 0) → ((i : ℕ) → i ≤ n → Off i → T i → T (i + 1)) → (r : ℕ) → Skipped Off n from r → T from → T r
   through T f zero a y = subst T (omega (arith, a.low)) y

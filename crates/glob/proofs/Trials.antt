@@ -203,7 +203,3 @@ module _ {B : Type 0} (k : List B → Bool) where
 abbrev pub ahead : ℕ → Option ℕ → ℕ
 ahead n (Some i) = n + 1 - i
 ahead n None = 0
-
-pub ahead_less : (Off : ℕ → Type 0) (n i : ℕ) → i ≤ n → (o : Option ℕ) → Next Off n (i + 1) o → ahead n o < n + 1 - i
-ahead_less Off n i l (Some r) a = omega (arith, l, a.0.low, a.1)
-ahead_less Off n i l None a = omega (arith, l)

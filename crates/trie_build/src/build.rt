@@ -18,30 +18,31 @@ use entries::{SLOT_SIZE, Slot};
 use rows::sizes::{LENGTH_AT, PATH_AT, REFERENCE_AT, REFERENCE_SIZE, VALUE_SIZE};
 use trie_read::kind::{Dimension, Kind};
 use trie_read::sizes::{BODY_LENGTH_AT, HEAD_SIZE, SUFFIX_SIZE};
-use trie_sets::partition::partition;
+use trie_sets::partition::{Column, partition};
 use trie_sets::positions::{Shape, Shared, split};
 use trie_write::write::{put_front, put_suffix};
 
 // How many slots, from the first on, have its byte in a column.
-fn run(slots: &[u8], column: usize) -> usize
-    requires { (0 < length (slots_of slots.now)) × (column < slot_size) }
-    ensures { Run (slots_of slots.now) column result }
+fn run(slots: &[u8], column: Column) -> usize
+    requires { 0 < length (slots_of slots.now) }
+    ensures { Run (slots_of slots.now) column.at result }
 {
     let (set, _) = slots.as_chunks::<SLOT_SIZE>();
-    let byte = set[0][column];
+    let byte = set[0][column.at];
     set.iter()
-        .position(|slot| slot[column] != byte)
+        .position(|slot| slot[column.at] != byte)
         .unwrap_or(set.len())
 }
 
 // Where in a slot the byte stands at which the keys of a node part.
-fn column_of(dimension: Dimension, shared: Shared) -> usize
-    ensures { result ≡ column_of (number_of dimension) shared.value shared.path }
+fn column_of(dimension: Dimension, shared: Shared) -> Column
+    ensures { result.at ≡ column_of (number_of dimension) shared.value shared.path }
 {
-    match dimension {
+    let at = match dimension {
         Dimension::Value => shared.value,
         _ => PATH_AT + shared.path,
-    }
+    };
+    Column { at }
 }
 
 // Splits the set and writes its node up to the body: the strings are the bytes of a slot from the positions above up to its own.

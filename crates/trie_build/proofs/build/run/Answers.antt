@@ -11,14 +11,14 @@ use Rattle.trie_build.proofs.Runs.{run_found}
 use Rattle.trie_build.proofs.build.run.Goals as goal
 
 pub bounds-set-0 : goal.bounds-set-0
-bounds-set-0 c = rw (c.as_chunks.ensures.front ∙ chunks_slots c.args.slots.now) c.requires.0
+bounds-set-0 c = rw (c.as_chunks.ensures.front ∙ chunks_slots c.args.slots.now) c.requires
 
 pub returns : goal.returns
 returns c =
     let set = c.as_chunks.result.0.now in
-    let column = c.args.column in
+    let column = c.args.column.at in
     let e = c.as_chunks.ensures.front ∙ chunks_slots c.args.slots.now in
     rw (← e, c.unwrap_or.ensures)
-    (run_found set column c.position.result (rw e c.requires.0)
+    (run_found set column c.position.result (rw e c.requires)
     (IsFirst-from_position _ _ c.position.result (λ (x : List ℕ). get_or x column 0 ≡ slot_byte set 0 column → ⊥) (λ (x : List ℕ). get_or x column 0 ≡ slot_byte set 0 column)
     c.position.ensures.ran (YieldsList-from_slice set cc) (λ x q k. search (rules, tests)) (λ x q k. search (rules, tests))))
