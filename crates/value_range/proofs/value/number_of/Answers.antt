@@ -10,9 +10,6 @@ loop-b-init c = (number_none, omega arith)
 pub overflow_mul-x : goal.overflow_mul-x
 overflow_mul-x c = let l = c.loop-b in omega (arith, number_fits l.x l.b-index l.invariant.1 (omega arith))
 
-pub overflow_add-x : goal.overflow_add-x
-overflow_add-x c = let l = c.loop-b in omega (arith, number_fits l.x l.b-index l.invariant.1 (omega arith))
-
 pub loop-b-preserved : goal.loop-b-preserved
 loop-b-preserved c =
     let l = c.loop-b in
