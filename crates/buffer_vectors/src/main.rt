@@ -27,21 +27,9 @@ fn zero(s: &mut [u8; 64], at: usize, n: usize) {
     }
 }
 
-// Writes the number in 4 bytes at `at`, and prints the number that then stands one byte before.
-fn write32(console: &mut Console, s: &mut [u8; 64], at: usize, x: u32) {
-    if 1 <= at && at <= SIZE - 4 {
-        put32(s, at, x);
-        console.print_decimal(u64::from(get32(s, at - 1)));
-        console.print(b"\n");
-    }
-}
-
-fn write64(console: &mut Console, s: &mut [u8; 64], at: usize, x: u64) {
-    if 1 <= at && at <= SIZE - 8 {
-        put64(s, at, x);
-        console.print_decimal(get64(s, at - 1));
-        console.print(b"\n");
-    }
+fn print_number(console: &mut Console, x: u64) {
+    console.print_decimal(x);
+    console.print(b"\n");
 }
 
 fn run(console: &mut Console, s: &mut [u8; 64], command: &[u8; 16]) {
@@ -53,8 +41,19 @@ fn run(console: &mut Console, s: &mut [u8; 64], command: &[u8; 16]) {
         0 => copy(s, a, &command[8..]),
         1 => shift(s, a, b, n),
         2 => zero(s, a, b),
-        3 => write32(console, s, a, get32(command, 8)),
-        _ => write64(console, s, a, get64(command, 8)),
+        // Writes the number in 4 bytes, or in 8, and prints the number that then stands one byte before.
+        3 => {
+            if 1 <= a && a <= SIZE - 4 {
+                put32(s, a, get32(command, 8));
+                print_number(console, u64::from(get32(s, a - 1)));
+            }
+        }
+        _ => {
+            if 1 <= a && a <= SIZE - 8 {
+                put64(s, a, get64(command, 8));
+                print_number(console, get64(s, a - 1));
+            }
+        }
     }
 }
 

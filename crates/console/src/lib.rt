@@ -4,6 +4,9 @@
 
 ghost use Rattle.std.specs.Prelude.{◌≤◌, length};
 
+use linespell::sizes::{REPLY_LIMIT, ROW_LINE_LIMIT};
+use linespell::spell::{spell_reply, spell_row};
+use rows::sizes::ROW_SIZE;
 use std::io;
 use std::io::{Read, Stdin, Stdout, Write};
 
@@ -45,6 +48,20 @@ impl Console {
                 self.writes = write!(self.output, "{b:02x}");
             }
         }
+    }
+
+    // A line of three numbers, as `fieldlog` spells a reply.
+    pub fn print_reply(&mut self, number: u64, first: u64, second: u64) {
+        let mut text = [0u8; REPLY_LIMIT];
+        let n = spell_reply(&mut text, 0, number, first, second);
+        self.print(&text[..n]);
+    }
+
+    // The line of a row, as `fieldlog` spells it.
+    pub fn print_row(&mut self, row: &[u8; ROW_SIZE]) {
+        let mut text = [0u8; ROW_LINE_LIMIT];
+        let n = spell_row(&mut text, 0, row);
+        self.print(&text[..n]);
     }
 
     // One read; 0 at the end of the input.

@@ -10,19 +10,11 @@ use console::Console;
 use logline::command::Command;
 use logline::lines::{Cut, LineCutter};
 use logline::reader::parse;
-use logline::sizes::{LINE_LIMIT, REPLY_LIMIT, ROW_LINE_LIMIT};
-use logline::spell::{spell_reply, spell_row};
+use logline::sizes::LINE_LIMIT;
 use rows::sizes::{LENGTH_AT, PATH_AT, PATH_LIMIT, REFERENCE_AT, REFERENCE_SIZE, ROW_SIZE};
 use std::io;
 
 const CHUNKS: usize = 4096;
-
-// `=,a,b,c`
-fn print_reply(console: &mut Console, a: u64, b: u64, c: u64) {
-    let mut text = [0u8; REPLY_LIMIT];
-    let n = spell_reply(&mut text, 0, a, b, c);
-    console.print(&text[..n]);
-}
 
 // `-,value,reference,path` by way of a row
 fn print_row(console: &mut Console, value: u64, reference: &[u8; REFERENCE_SIZE], path: &[u8]) {
@@ -35,16 +27,14 @@ fn print_row(console: &mut Console, value: u64, reference: &[u8; REFERENCE_SIZE]
     copy_from(&mut row, REFERENCE_AT, reference);
     row[LENGTH_AT] = path.len() as u8;
     copy_from(&mut row, PATH_AT, path);
-    let mut text = [0u8; ROW_LINE_LIMIT];
-    let n = spell_row(&mut text, 0, &row);
-    console.print(&text[..n]);
+    console.print_row(&row);
 }
 
 fn print_line(console: &mut Console, line: &[u8]) {
     match parse(line) {
         Some(Command::Setup { m, l, tau }) => {
             console.print(b"setup ");
-            print_reply(console, m, l, tau);
+            console.print_reply(m, l, tau);
         }
         Some(
             Command::Add {
@@ -58,7 +48,7 @@ fn print_line(console: &mut Console, line: &[u8]) {
         }
         Some(Command::Search { low, high, pattern }) => {
             console.print(b"search ");
-            print_reply(console, low, high, pattern.len() as u64);
+            console.print_reply(low, high, pattern.len() as u64);
             console.print(pattern);
             console.print(b"\n");
         }
@@ -67,7 +57,7 @@ fn print_line(console: &mut Console, line: &[u8]) {
 }
 
 // Prints what was cut off, if anything was.
-fn print_cut(console: &mut Console, lines: &LineCutter, cut: Option<Cut>) {
+fn print_cut(console: &mut Console, lines: &LineCutter<'_>, cut: Option<Cut>) {
     match cut {
         Some(Cut::Line(n)) => {
             if n <= LINE_LIMIT {
@@ -79,7 +69,7 @@ fn print_cut(console: &mut Console, lines: &LineCutter, cut: Option<Cut>) {
     }
 }
 
-fn feed_chunk(console: &mut Console, lines: &mut LineCutter, chunk: &[u8]) {
+fn feed_chunk(console: &mut Console, lines: &mut LineCutter<'_>, chunk: &[u8]) {
     for byte in chunk {
         let cut = lines.push(*byte);
         print_cut(console, lines, cut);
@@ -88,7 +78,8 @@ fn feed_chunk(console: &mut Console, lines: &mut LineCutter, chunk: &[u8]) {
 
 fn main(rt: HostRuntime) -> io::Result<()> {
     let mut console = Console::new(rt.stdin(), rt.stdout());
-    let mut lines = LineCutter::new();
+    let mut line = [0u8; LINE_LIMIT];
+    let mut lines = LineCutter::new(&mut line);
     print_cut(&mut console, &lines, lines.finish());
     console.print(b"begin\n");
     let mut chunk = [0u8; 61];

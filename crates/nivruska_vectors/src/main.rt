@@ -2,19 +2,12 @@
 // and its nodes as `=,kind,path position,value position`. Input and expected output come from tools/oracle/table5.py: Table 5 of the paper.
 #![tactic(auto)]
 
-ghost use Rattle.std.specs.Prelude.{◌≡◌, length};
-ghost use Rattle.rows.specs.Sizes.{record_size};
-
 use buffer::numbers::get64;
 use console::Console;
-use linespell::spell::{spell_reply, spell_row};
-use logline::sizes::{REPLY_LIMIT, ROW_LINE_LIMIT};
 use nivruska::Reply;
 use rows::sizes::{LENGTH_AT, NODE_SIZE, PATH_AT, PATH_LIMIT, RECORD_SIZE, REFERENCE_AT, ROW_SIZE};
 use std::io;
 use store::front::{ENTRY_ROOM, FRONT_ROOM};
-
-const NODES_AT: usize = ROW_SIZE + 1;
 
 // What a store for M 9 and L 1 needs, and room for its records.
 const STORE_SIZE: usize = ENTRY_ROOM * 9 * 2 + FRONT_ROOM;
@@ -24,14 +17,8 @@ const ANSWER_SIZE: usize = 9 * RECORD_SIZE;
 // More rows than such a store holds.
 const ROWS: usize = 20;
 
-fn print_numbers(console: &mut Console, a: u64, b: u64, c: u64) {
-    let mut text = [0u8; REPLY_LIMIT];
-    let n = spell_reply(&mut text, 0, a, b, c);
-    console.print(&text[..n]);
-}
-
 fn print_reply(console: &mut Console, reply: Reply) {
-    print_numbers(console, u64::from(reply.number), reply.first, reply.second);
+    console.print_reply(u64::from(reply.number), reply.first, reply.second);
 }
 
 fn add_row(console: &mut Console, store: &mut [u8], row: &[u8; ROW_SIZE]) {
@@ -58,30 +45,21 @@ fn add_rows(console: &mut Console, store: &mut [u8]) {
     }
 }
 
-fn print_record(console: &mut Console, bytes: &[u8])
-    requires { length bytes.now ≡ record_size }
-{
-    let mut text = [0u8; ROW_LINE_LIMIT];
-    let n = spell_row(&mut text, 0, &bytes[0..ROW_SIZE]);
-    console.print(&text[..n]);
-    let nodes = usize::from(bytes[ROW_SIZE]);
-    for node in bytes[NODES_AT..].chunks_exact(NODE_SIZE).take(nodes) {
+fn print_record(console: &mut Console, record: &[u8]) {
+    let Some((row, [count, nodes @ ..])) = record.split_first_chunk::<ROW_SIZE>() else {
+        return;
+    };
+    console.print_row(row);
+    for node in nodes.chunks_exact(NODE_SIZE).take(usize::from(*count)) {
         if let [kind, path, value] = node {
-            print_numbers(
-                console,
-                u64::from(*kind),
-                u64::from(*path),
-                u64::from(*value),
-            );
+            console.print_reply(u64::from(*kind), u64::from(*path), u64::from(*value));
         }
     }
 }
 
 fn print_records(console: &mut Console, answer: &[u8], n: usize) {
     for record in answer.chunks_exact(RECORD_SIZE).take(n) {
-        if record.len() == RECORD_SIZE {
-            print_record(console, record);
-        }
+        print_record(console, record);
     }
 }
 

@@ -122,6 +122,61 @@ fn print_title(console: &mut Console, line: &[u8]) {
     console.print(b"\n");
 }
 
+// An entry as a key has it: its value in bytes, its path with the end byte.
+#[derive(Drop)]
+struct Entry {
+    value: [u8; VALUE_SIZE],
+    path: [u8; PATH_LIMIT + 1],
+    length: usize,
+    reference: [u8; REFERENCE_SIZE],
+    ghost short: { length ≤ 200 },
+}
+
+impl Entry {
+    fn new(value: u64, path: &[u8], reference: [u8; REFERENCE_SIZE]) -> Entry
+        requires { length path.now ≤ 200 }
+    {
+        let mut v = [0u8; VALUE_SIZE];
+        buffer::numbers::put64(&mut v, 0, value);
+        let mut p = [0u8; PATH_LIMIT + 1];
+        buffer::moves::copy_from(&mut p, 0, path);
+        Entry {
+            value: v,
+            path: p,
+            length: path.len(),
+            reference,
+        }
+    }
+
+    fn key(&self) -> Key<'_> {
+        Key {
+            value: &self.value,
+            path: &self.path[..self.length + 1],
+            reference: &self.reference,
+        }
+    }
+}
+
+// The entry of a line `+,value,reference,path`; prints why there is none.
+fn read_entry(console: &mut Console, line: &[u8]) -> Option<Entry> {
+    let Some(
+        Command::Add {
+            value,
+            reference,
+            path,
+        },
+    ) = logline::reader::parse(line)
+    else {
+        console.print(b"misread\n");
+        return None;
+    };
+    if PATH_LIMIT < path.len() {
+        console.print(b"path over 200\n");
+        return None;
+    }
+    Some(Entry::new(value, path, reference))
+}
+
 // A trie, and how many bytes it has.
 #[derive(Drop)]
 struct Trie {
@@ -166,59 +221,20 @@ impl Trie {
         self.used += add(&mut self.bytes, 0, used, used, None, NODE_LIMIT, key);
     }
 
-    // An entry as a key: its value in bytes, its path with the end byte.
-    fn apply(
-        &mut self,
-        console: &mut Console,
-        asks: bool,
-        value: u64,
-        path: &[u8],
-        reference: &[u8; REFERENCE_SIZE],
-    ) {
-        if PATH_LIMIT < path.len() {
-            console.print(b"path over 200\n");
-            return;
-        }
-        let mut v = [0u8; VALUE_SIZE];
-        buffer::numbers::put64(&mut v, 0, value);
-        let mut p = [0u8; PATH_LIMIT + 1];
-        buffer::moves::copy_from(&mut p, 0, path);
-        let key = Key {
-            value: &v,
-            path: &p[..path.len() + 1],
-            reference,
-        };
-        if asks {
-            self.ask(console, &key);
-        } else {
-            self.add(console, &key);
-        }
-    }
-
-    fn read_line(&mut self, console: &mut Console, asks: bool, line: &[u8]) {
-        let Some(
-            Command::Add {
-                value,
-                reference,
-                path,
-            },
-        ) = logline::reader::parse(line)
-        else {
-            console.print(b"misread\n");
-            return;
-        };
-        self.apply(console, asks, value, path, &reference);
-    }
-
     fn step(&mut self, console: &mut Console, line: &[u8]) {
-        let Some(mark) = line.first() else {
-            self.end(console);
-            return;
-        };
-        match *mark {
-            b'#' => print_title(console, line),
-            b'?' => self.read_line(console, true, &line[1..]),
-            _ => self.read_line(console, false, line),
+        match line {
+            [] => self.end(console),
+            [b'#', ..] => print_title(console, line),
+            [b'?', rest @ ..] => {
+                if let Some(entry) = read_entry(console, rest) {
+                    self.ask(console, &entry.key());
+                }
+            }
+            _ => {
+                if let Some(entry) = read_entry(console, line) {
+                    self.add(console, &entry.key());
+                }
+            }
         }
     }
 }
