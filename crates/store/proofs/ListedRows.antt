@@ -2,7 +2,7 @@
 use Prim.Native.Nat.{ℕ, ◌+◌, ◌*◌, ◌/◌, ◌≤◌, ◌<◌, min}
 use mathlib.Core.Path.{◌≡◌, refl, sym, ap, ◌∙◌}
 use mathlib.Core.Bool.{true}
-use mathlib.Core.Logic.{inl, inr}
+use mathlib.Core.Logic.{inr}
 use mathlib.Core.List.{List, [], append-nil}
 use native.Mathlib.Omega.{arith}
 use native.Mathlib.Nat.{mul-le-mul_right, div-lt_iff_lt-mul}
@@ -17,7 +17,7 @@ use Rattle.rows.specs.Sorted.{sorted}
 use Rattle.rows.specs.Records.{records}
 use Rattle.rows.proofs.Records.{wide, records_joined, length_joined}
 use Rattle.rows.proofs.Sorted.{all_sorted, length_sorted}
-use Rattle.book.specs.Replies.{Reply, reply, result}
+use Rattle.book.specs.Replies.{reply, result}
 use Rattle.book.specs.Step.{list}
 use Rattle.book.specs.Promises.{Accepted}
 use Rattle.book.proofs.Listing.{list_room, list_over}
@@ -122,11 +122,4 @@ module _ (width : ℕ) (Rows : List (List ℕ) → ℕ → Type 0) (held room : 
         ours = λ rows second h few.
             let z = o.2 rows second h few in
             ap (λ (n : ℕ). result (reply 11 n 0) answer) z ∙ sym (list_over width rows second answer (omega (arith, more, ap (λ (k : ℕ). k * width) z)));
-      }
-
-  pub lists_filled : {filled : List ℕ} {x : Reply} → Overfull Rows held room None → Filled width Rows room answer filled x → Listed width Rows held answer filled x
-  lists_filled o w =
-      record {
-        otherwise = inl w.accepted;
-        ours = λ rows second h few. w.ours rows second h (o rows second h few);
       }
