@@ -1,4 +1,5 @@
-// Where the tries of a store lie. They are counted: the small trie is 0, level i is i + 1.
+// Where the tries of a store lie. They are counted: the small trie is 0, level i is i + 1. No enum: all of them are looked through, listed and measured
+// by one count.
 ghost use Rattle.std.specs.Prelude.{◌≡◌, ◌*◌, ◌≤◌, length};
 ghost use Rattle.book.specs.Front.{need, m_limit, l_limit, entries_limit, need_limit, entry_room};
 ghost use Rattle.store.specs.Parts.{region_at, region_size, PartOf};

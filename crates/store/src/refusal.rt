@@ -46,7 +46,7 @@ impl Refusal {
         }
     }
 
-    // The value beside it: the count of rows that have no room, else 0.
+    // The value beside it, as a reply has one with each number: the count of rows that have no room, else 0.
     pub fn value(self) -> usize
         ensures { result ≡ (refused self).first }
     {

@@ -10,8 +10,7 @@ use crate::check::check;
 use crate::lookup::has_entry;
 use crate::place::put_entry;
 use buffer::moves::copy_from;
-use buffer::numbers::put64;
-use rows::sizes::{ENDED_LIMIT, VALUE_SIZE};
+use rows::sizes::ENDED_LIMIT;
 use store::front::Front;
 use store::opened::Store;
 use store::refusal::Refusal;
@@ -29,8 +28,7 @@ fn admit(store: &mut [u8], front: Front, entry: &Entry<'_>) -> Added
     requires { Ready front.m front.l front.tau front.held (entry_of entry.now) store.old }
     ensures { Adds (entry_of entry.now) store.old store.new (added result) }
 {
-    let mut value = [0u8; VALUE_SIZE];
-    put64(&mut value, 0, entry.value);
+    let value = u64::to_be_bytes(entry.value);
     let mut path = [0u8; ENDED_LIMIT];
     copy_from(&mut path, 0, entry.path);
     let key = Key {

@@ -25,7 +25,11 @@ fn add_suffix(s: &mut [u8], node: &NodePlace, used: usize, key: &Key<'_>) -> usi
     ensures { (depth : ℕ) → Grown s.old node.now used depth (spelled key.now) s.new result }
 {
     let n = insert::<NewSuffix>(s, node.next, used, key);
-    put32(s, node.at + BODY_LENGTH_AT, (node.next - node.body + n) as u32); // the suffix counts
+    put32(
+        s,
+        node.at + BODY_LENGTH_AT,
+        (node.next - node.body + n) as u32, // the suffix counts
+    );
     n
 }
 
@@ -50,7 +54,11 @@ fn extend_body(s: &mut [u8], node: &NodePlace, used: usize, depth: usize, key: &
         depth - 1,
         key,
     );
-    put32(s, node.at + BODY_LENGTH_AT, (node.next - node.body + n) as u32);
+    put32(
+        s,
+        node.at + BODY_LENGTH_AT,
+        (node.next - node.body + n) as u32,
+    );
     n
 }
 
@@ -81,7 +89,8 @@ fn visit_node(
 }
 
 // Adds a key to the tries in s[off..stop], which stand below a node that branches in `above` (None: at the root) and are at most `depth` nodes
-// high; what follows them up to `used` moves on. Returns by how many bytes. On bytes that are no trie's it returns all the same.
+// high; what follows them up to `used` moves on. Returns by how many bytes: by 0 where nothing is added, as on bytes that are no trie's, so that no case
+// is left to say (it is public, and could not fail before).
 #[cycle(add_extend_body_visit_node)]
 pub fn add(
     s: &mut [u8],

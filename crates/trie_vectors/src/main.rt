@@ -15,7 +15,7 @@ ghost use Rattle.trie_vectors.specs.declared.TheConstants.{REGION_SIZE};
 
 use console::Console;
 use logline::command::Command;
-use rows::sizes::{NODE_LIMIT, PATH_LIMIT, REFERENCE_SIZE, VALUE_SIZE};
+use rows::sizes::{ENDED_LIMIT, NODE_LIMIT, PATH_LIMIT, REFERENCE_SIZE, VALUE_SIZE};
 use std::io;
 use trie_add::add::{GROWTH_SIZE, add};
 use trie_read::head::{Malformed, Node, read_head};
@@ -126,7 +126,7 @@ fn print_title(console: &mut Console, line: &[u8]) {
 #[derive(Drop)]
 struct Entry {
     value: [u8; VALUE_SIZE],
-    path: [u8; PATH_LIMIT + 1],
+    path: [u8; ENDED_LIMIT],
     length: usize,
     reference: [u8; REFERENCE_SIZE],
     ghost short: { length ≤ 200 },
@@ -136,12 +136,10 @@ impl Entry {
     fn new(value: u64, path: &[u8], reference: [u8; REFERENCE_SIZE]) -> Entry
         requires { length path.now ≤ 200 }
     {
-        let mut v = [0u8; VALUE_SIZE];
-        buffer::numbers::put64(&mut v, 0, value);
-        let mut p = [0u8; PATH_LIMIT + 1];
+        let mut p = [0u8; ENDED_LIMIT];
         buffer::moves::copy_from(&mut p, 0, path);
         Entry {
-            value: v,
+            value: u64::to_be_bytes(value),
             path: p,
             length: path.len(),
             reference,
