@@ -252,7 +252,7 @@ path_whole pattern path f = ap is_match (reach_path pattern path f) ∙ match_wh
 -- THE KEY OF AN ENTRY MATCHES AS THE ENTRY DOES
 pub wants_entry : (q : Query) (e : Entry) → is_fine (path_form e.path) ≡ true → wants q (entry_key e) ≡ matches_entry q e
 unfolding wants matches_entry entry_key
-wants_entry q e f = -- by what the bytes of the value are, not by how they are spelled
+wants_entry q e f =  -- by what the bytes of the value are, not by how they are spelled
     let eight : length (at 0 (entry_key e).strings) ≡ value_size = grind (arith, length_bytes_of, length-reverse) in
     let n : number (at 0 (entry_key e).strings) ≡ e.value = grind (arith, number_bytes_of, reverse-reverse) in
     ap₂ ◌&&◌ (value_whole q e.value (at 0 (entry_key e).strings) eight n) (path_whole q.pattern e.path f) ∙ and_comm (in_range q e.value) (matches q.pattern e.path)
