@@ -13,7 +13,7 @@ use Rattle.entries.specs.Slots.{slot_size}
 use Rattle.gather.specs.KeySlots.{ended_limit, known}
 use Rattle.gather.specs.Walks.{Entered}
 use Rattle.gather.specs.Visits.{node_size, way_size, node_of, Descended}
-use Rattle.gather.specs.declared.known.Known.{Known}
+use Rattle.entries.specs.declared.known.Known.{Known}
 use Rattle.gather.specs.declared.known.Below.{Below}
 
 -- positions count the known bytes, from 1

@@ -6,7 +6,7 @@ use Rattle.trie_theory.specs.Forest.{Strings, Key, join, under}
 use Rattle.trie_read.specs.Shape.{Fixed}
 use Rattle.trie_read.specs.Suffixes.{suffixes_bytes}
 use Rattle.gather.specs.KeySlots.{has_slot, has_room, known}
-use Rattle.gather.specs.declared.known.Known.{Known}
+use Rattle.entries.specs.declared.known.Known.{Known}
 
 -- the bytes known on the way down, as the code has them
 abbrev pub known_strings : Known → List ℕ → Strings

@@ -29,7 +29,7 @@ use Rattle.trie_read.proofs.SuffixParts.{Seen, tail_end, tail_at}
 use Rattle.gather.specs.KeySlots.{has_slot, key_slot, known, suffix_key}
 use Rattle.gather.specs.Walks.{Put, known_strings}
 use Rattle.gather.specs.Outputs.{RowPut}
-use Rattle.gather.specs.declared.known.Known.{Known}
+use Rattle.entries.specs.declared.known.Known.{Known}
 use Rattle.gather.specs.declared.output.Output.{Output}
 use Rattle.gather.proofs.Filling.{slotted}
 pub use Rattle.gather.proofs.Filling.{length_row}

@@ -35,7 +35,7 @@ use Rattle.trie_read.specs.declared.kind.Kind.TheVariants.{Leaf, Inner}
 use Rattle.trie_read.proofs.Node.{leaf_view, inner_view, head_end, kind?}
 use Rattle.gather.specs.KeySlots.{ended_limit, has_room, known}
 use Rattle.gather.specs.Walks.{known_strings}
-use Rattle.gather.specs.declared.known.Known.{Known}
+use Rattle.entries.specs.declared.known.Known.{Known}
 use Rattle.gather.specs.declared.output.Output.{Output}
 use Rattle.gather.proofs.Filling.{known_less}
 use Rattle.gather.proofs.Splitting.{leaf_high, inner_high}

@@ -24,7 +24,7 @@ use Rattle.entries.specs.Slots.{slot_size}
 use Rattle.entries.specs.Query.{Query, value_reach, reaches, wants, is_match}
 use Rattle.gather.specs.KeySlots.{ended_limit, has_slot, key_slot, known, suffix_key}
 use Rattle.gather.specs.Walks.{known_strings}
-use Rattle.gather.specs.declared.known.Known.{Known}
+use Rattle.entries.specs.declared.known.Known.{Known}
 use Rattle.gather.proofs.Filling.{known_same, unfilled, slot_kept}
 use Rattle.trie_read.specs.Shape.{above_of}
 use Rattle.trie_read.specs.Suffixes.{SuffixStands}

@@ -20,7 +20,7 @@ use Rattle.trie_theory.specs.Encode.{Regular}
 use Rattle.entries.specs.Query.{Query, reaches, wants}
 use Rattle.trie_theory.proofs.Strings.{at_join}
 use Rattle.gather.specs.KeySlots.{has_slot, known}
-use Rattle.gather.specs.declared.known.Known.{Known}
+use Rattle.entries.specs.declared.known.Known.{Known}
 use Rattle.gather.specs.declared.output.Output.{Output}
 use Rattle.gather.proofs.Filling.{slotted}
 pub use Rattle.gather.proofs.Filling.{entry_row}

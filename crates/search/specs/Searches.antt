@@ -18,7 +18,7 @@ use Rattle.trie_read.specs.declared.kind.Kind.TheVariants.{Leaf, Inner}
 use Rattle.trie_read.specs.Suffixes.{suffixes_bytes}
 use Rattle.gather.specs.KeySlots.{ended_limit, has_slot}
 use Rattle.gather.specs.Walks.{written, Put}
-use Rattle.gather.specs.declared.known.Known.{Known}
+use Rattle.entries.specs.declared.known.Known.{Known}
 use Rattle.gather.specs.declared.output.Output.{Output}
 use Rattle.search.specs.Steps.{takes, key_row}
 

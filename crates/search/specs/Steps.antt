@@ -17,7 +17,7 @@ use Rattle.trie_read.specs.declared.kind.Dimension.{Dimension}
 use Rattle.trie_read.specs.declared.kind.Dimension.TheVariants.{Value}
 use Rattle.gather.specs.KeySlots.{has_room, has_slot, key_slot, suffix_key}
 use Rattle.gather.specs.Walks.{Deeper, known_strings}
-use Rattle.gather.specs.declared.known.Known.{Known}
+use Rattle.entries.specs.declared.known.Known.{Known}
 use Rattle.value_range.specs.Spans.{Spans}
 use Rattle.search.specs.declared.step.Common.{Common}
 unfoldable pub use Rattle.gather.specs.KeySlots.{key_row}

@@ -14,12 +14,13 @@ ghost use Rattle.trie_build.specs.Nodes.{rest, rests_bytes, Behind};
 ghost use Rattle.trie_build.specs.Steps.{Ready, trie_bytes, column_of, Run, Opened};
 
 use buffer::numbers::put32;
+use entries::known::Known;
 use entries::{SLOT_SIZE, Slot};
 use rows::sizes::{LENGTH_AT, PATH_AT, REFERENCE_AT, REFERENCE_SIZE, VALUE_SIZE};
 use trie_read::kind::{Dimension, Kind};
 use trie_read::sizes::{BODY_LENGTH_AT, HEAD_SIZE, SUFFIX_SIZE};
 use trie_sets::partition::{Column, partition};
-use trie_sets::positions::{Shape, Shared, split};
+use trie_sets::positions::{Shape, split};
 use trie_write::write::{put_front, put_suffix};
 
 // How many slots, from the first on, have its byte in a column.
@@ -35,7 +36,7 @@ fn run(slots: &[u8], column: Column) -> usize
 }
 
 // Where in a slot the byte stands at which the keys of a node part.
-fn column_of(dimension: Dimension, shared: Shared) -> Column
+fn column_of(dimension: Dimension, shared: Known) -> Column
     ensures { result.at ≡ column_of (number_of dimension) shared.value shared.path }
 {
     let at = match dimension {
@@ -51,7 +52,7 @@ fn open_node(
     slots: &[u8],
     tau: usize,
     above: Option<Dimension>,
-    known: Shared,
+    known: Known,
 ) -> Shape
     requires { Ready (length out.old) (slots_of slots.now) tau (above_of above) known.value known.path }
     ensures { Opened out.old (slots_of slots.now) tau (above_of above) known.value known.path out.new result.kind result.shared.value result.shared.path }
@@ -66,7 +67,7 @@ fn open_node(
 }
 
 // The suffix of the key in a slot, what remains behind the positions. Returns where it ends.
-fn put_rest(out: &mut [u8], at: usize, slot: &Slot, shared: Shared) -> usize
+fn put_rest(out: &mut [u8], at: usize, slot: &Slot, shared: Known) -> usize
     requires { Behind slot.now shared.path × (at + length (suffix_bytes (rest shared.value shared.path slot.now)) ≤ length out.old) }
     ensures { (out.new ≡ splice out.old at (suffix_bytes (rest shared.value shared.path slot.now))) × (result ≡ at + length (suffix_bytes (rest shared.value shared.path slot.now))) }
 {
@@ -84,7 +85,7 @@ fn put_rest(out: &mut [u8], at: usize, slot: &Slot, shared: Shared) -> usize
 }
 
 // The suffixes of a leaf, in the sequence of their slots. Returns where they end.
-fn put_suffixes(out: &mut [u8], at: usize, slots: &[u8], shared: Shared) -> usize
+fn put_suffixes(out: &mut [u8], at: usize, slots: &[u8], shared: Known) -> usize
     requires { ((k : ℕ) → k < length (slots_of slots.now) → Behind (get_or (slots_of slots.now) k []) shared.path) × (at + length (rests_bytes shared.value shared.path (slots_of slots.now)) ≤ length out.old) }
     ensures { (out.new ≡ splice out.old at (rests_bytes shared.value shared.path (slots_of slots.now))) × (result ≡ at + length (rests_bytes shared.value shared.path (slots_of slots.now))) }
 {
@@ -104,7 +105,7 @@ fn build(
     scratch: &mut [u8],
     tau: usize,
     above: Option<Dimension>,
-    known: Shared,
+    known: Known,
 ) -> usize
     requires { Ready (length out.old) (slots_of slots.old) tau (above_of above) known.value known.path × (length slots.old ≡ length (slots_of slots.old) * slot_size) × (length slots.old ≤ length scratch.old) }
     ensures { (out.new ≡ splice out.old 0 (trie_bytes tau (above_of above) known.value known.path (map slot_key (slots_of slots.old)))) × (result ≡ length (trie_bytes tau (above_of above) known.value known.path (map slot_key (slots_of slots.old)))) }
@@ -157,6 +158,6 @@ pub fn build_level(
         &mut behind[..size],
         tau,
         None,
-        Shared { value: 0, path: 0 },
+        Known { value: 0, path: 0 },
     )
 }

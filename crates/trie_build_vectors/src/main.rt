@@ -12,10 +12,11 @@ ghost use Rattle.trie_sets.specs.Positions.{OfTwo};
 
 use console::Console;
 use entries::SLOT_SIZE;
+use entries::known::Known;
 use rows::sizes::ROW_SIZE;
 use std::io;
 use trie_read::kind::Dimension;
-use trie_sets::positions::{Shared, paths_are_short, split};
+use trie_sets::positions::{paths_are_short, split};
 
 // The most rows of a set.
 const MOST: usize = 32;
@@ -43,7 +44,7 @@ fn print_position(console: &mut Console, shared: usize) {
 fn print_split(console: &mut Console, slots: &[u8], tau: usize, above: Option<Dimension>)
     requires { (0 < length (slots_of slots.now)) × OfTwo (above_of above) × (all short_path (slots_of slots.now) ≡ true) }
 {
-    let shape = split(slots, tau, above, Shared { value: 0, path: 0 });
+    let shape = split(slots, tau, above, Known { value: 0, path: 0 });
     console.print_decimal(u64::from(u8::from(shape.kind)));
     print_position(console, shape.shared.path);
     print_position(console, shape.shared.value);

@@ -59,9 +59,9 @@ common_bytes-path-requires c =
       omega (arith, law.least_short r.0 (slots_whole c.args.slots.now) r.2 (small b) (least b)),
     )
 
-pub invariant_of-result-clause-path_most : goal.invariant_of-result-clause-path_most
-invariant_of-result-clause-path_most c =
-    let b = (goal.at.invariant_of-result-clause-path_most c).After-least_path in
+pub invariant_of-result-clause-path_fits : goal.invariant_of-result-clause-path_fits
+invariant_of-result-clause-path_fits c =
+    let b = (goal.at.invariant_of-result-clause-path_fits c).After-least_path in
     omega (arith, c.common_bytes-path.ensures.high, c.from-ends.ensures, law.least_short c.requires.0 (slots_whole c.args.slots.now) c.requires.2 (small b) (least b))
 
 pub returns : goal.returns
