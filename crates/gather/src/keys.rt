@@ -17,7 +17,8 @@ use trie_read::head::Nodes;
 use trie_read::kind::Kind;
 use trie_read::suffixes::Suffixes;
 
-// What is written for a key: rows of one width.
+// What is written for a key: rows of one width. The key's buffer and the way are two parameters: a row is made of both by reading, the walk lends each of them
+// to another function to be written, and search has no way.
 pub trait Format {
     ghost width: { ℕ };
 

@@ -1,6 +1,6 @@
 // Does a path fit a pattern? Calls go deeper only as the pattern gets shorter, so the pattern alone bounds the stack.
 // An answer `Never` stops the wild element before it from trying again, so the time is at most pattern times path.
-// The loops over `i` are no iterator chains: they read several slices, or two places of one, at one index.
+// The loops of `after_star` and `descend` are two: one function over the step to the next place and the trial would be a closure within their cycle of calls.
 ghost use Rattle.std.specs.Prelude.{◌≡◌, true, false, ◌&&◌, ◌+◌, ◌-◌, ◌<◌, ◌≤◌, length, take, drop, get_or, eqb, IfSome};
 ghost use Rattle.buffer.specs.Lists.{none};
 ghost use Rattle.glob.specs.Bytes.{slash};

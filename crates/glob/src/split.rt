@@ -7,7 +7,7 @@ ghost use Rattle.glob.specs.Inner.{LastLabel};
 
 use crate::bytes::{SLASH, STAR};
 
-// How many bytes stand before the first c: all, where there is none.
+// How many bytes stand before the first c: all, where there is none. No Option, nor in `next_slash`: callers cut there, and none asks which it was.
 pub fn bytes_before(s: &[u8], c: u8) -> usize
     ensures value { result ≡ position_or_len (λ b. b == c) s.now }
     ensures bound { result ≤ length s.now }

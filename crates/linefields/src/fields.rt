@@ -73,7 +73,7 @@ fn hex_byte(high: u8, low: u8) -> u8
     hex_value(high).unwrap_or(0) * 16 + hex_value(low).unwrap_or(0)
 }
 
-// The 20 bytes that 40 hex digits spell; what is no hex digit counts as 0.
+// The 20 bytes that 40 hex digits spell; what is no hex digit counts as 0. `reference`, which tells, stands beside it.
 pub fn unhex(digits: &[u8; REFERENCE_DIGITS]) -> [u8; REFERENCE_SIZE]
     ensures { result ≡ unhex digits.now }
 {

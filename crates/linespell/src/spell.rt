@@ -55,6 +55,7 @@ impl Line<'_> {
     }
 }
 
+// Not by `char::from_digit`, whose Option of a char would be opened and made a byte.
 #[tactic(auto, unfolding(crate::specs::Spelling::glyph))]
 fn glyph(d: u8) -> u8
     requires { d < 16 }

@@ -48,7 +48,8 @@ fn reach_labels(pattern: &[u8], known: &[u8]) -> Answer
 }
 
 // The answer for a search, which checks its pattern once and asks of the first bytes of paths: their form is not looked at again. `literal` bytes of the
-// pattern are such that every path that fits begins with them: bytes that are no more are only compared with these.
+// pattern are such that every path that fits begins with them: bytes that are no more are only compared with these. The pattern and its literal bytes are no
+// struct here, as they are in search's Query: the clause asks for nothing, and answers where `LiteralPrefix` holds.
 pub fn reach_from(pattern: &[u8], literal: usize, known: &[u8]) -> Answer
     ensures { is_fine (pattern_form pattern.now) ≡ true → LiteralPrefix pattern.now literal → FirstBytes known.now → result ≡ reach_of pattern.now known.now }
 {

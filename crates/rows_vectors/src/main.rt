@@ -11,7 +11,7 @@ use rows::sizes::{LENGTH_AT, PATH_AT, RECORD_SIZE, REFERENCE_AT, ROW_SIZE};
 use std::cmp::Ordering;
 use std::io;
 
-// The bytes of a record, which begins with a row.
+// The bytes of a record, which begins with a row. As the one of rows::sort, which is private: `sort` takes a plain width.
 #[derive(Clone, Copy)]
 struct Width {
     bytes: usize,

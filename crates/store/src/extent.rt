@@ -9,7 +9,8 @@ use buffer::numbers::get32;
 use trie_read::sizes::{BODY_LENGTH_AT, HEAD_SIZE};
 
 // How many bytes the trie takes: those to the end of its root. Where no root stands within the region this is the empty trie, whose length is 0 by
-// `value`, so an Option would say that length in a second way.
+// `value`, so an Option would say that length in a second way. Not by `first_node`: what that says of a forest is of bytes that are nothing else, and here
+// zeros stand behind.
 pub fn trie_length(t: &[u8]) -> usize
     ensures upper_bound { result ≤ length t.now }
     ensures value { (f : Forest) (n : ℕ) → Sound 2 root f → Regular 2 f → t.now ≡ encode f ++ replicate n 0 → result ≡ length (encode f) }

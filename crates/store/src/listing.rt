@@ -18,7 +18,8 @@ pub trait Walk {
     // Whether these are the rows that it finds, in their sequence, and the second value; of none where the bytes are not those of good tries.
     ghost Rows: { Self → List (List ℕ) → ℕ → Type 0 };
 
-    // Writes the first `room` of the rows. Returns how many there are, and the second value.
+    // Writes the first `room` of the rows. Returns how many there are, and the second value: these are a reply's two numbers, which document 01 gives to each
+    // call, to reading back a second one of 0. Answer and room, and no Output of gather: this crate does not stand on gather, and would for this alone.
     fn walk(&self, answer: &mut [u8], room: usize) -> (usize, usize)
         requires { room * WIDTH ≤ length answer.old }
         ensures { Walked WIDTH (Rows self.now) room answer.old answer.new result.0 result.1 };

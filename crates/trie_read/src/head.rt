@@ -80,7 +80,8 @@ pub fn first_node(t: &[u8]) -> Option<Node<'_>>
     read_head(t).unwrap_or(None)
 }
 
-// The nodes side by side, one after another; they end where no node begins, whatever the bytes there are.
+// The nodes side by side, one after another; they end where no node begins, whatever the bytes there are. Suffixes is a type of its own: one generic iterator
+// would need a trait with laws over forests and over lists of keys, which is longer than the two.
 #[derive(Drop)]
 pub struct Nodes<'a>(pub &'a [u8]);
 

@@ -83,6 +83,7 @@ fn print_suffix(console: &mut Console, suffix: &Suffix<'_>, indent: usize) {
     console.print(b"\n");
 }
 
+// By `read_suffix`, not over Suffixes: these end where no suffix begins, and here that is said.
 fn print_suffixes(console: &mut Console, body: &[u8], indent: usize) -> Result<(), Malformed> {
     let mut b = body;
     while let Some(suffix) = read_suffix(b)? {
