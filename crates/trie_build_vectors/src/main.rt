@@ -89,9 +89,9 @@ fn set<'a>(console: &mut Console, s: &mut [u8; MEMORY], input: &'a [u8]) -> Opti
         return None;
     }
     let (rows, rest) = rest.split_at_checked(n * ROW_SIZE)?;
-    for (k, row) in rows.as_chunks::<ROW_SIZE>().0.iter().enumerate() {
-        let at = SLOTS + k * SLOT_SIZE;
-        lay(&mut s[at..at + SLOT_SIZE], row);
+    let (rows, _) = rows.as_chunks::<ROW_SIZE>();
+    for (slot, row) in s[SLOTS..SCRATCH].chunks_exact_mut(SLOT_SIZE).zip(rows) {
+        lay(slot, row);
     }
     level(console, s, n, usize::from(*tau), above);
     Some(rest)
