@@ -22,6 +22,22 @@ pub struct Begun {
     ghost within: { cut ≡ event_of (counted cut) },
 }
 
+impl Begun {
+    // The end of the input: the last line, where its 0A is missing. The bytes are not needed for it.
+    pub fn finish(self) -> Option<Cut>
+        ensures by_index { (buf begun : List ℕ) → Holds (counted self.cut) buf begun → told result buf ≡ on_end begun }
+        ensures value { result ≡ finished_event (counted self.cut) }
+    {
+        let Cut::Line(len) = self.cut else {
+            return Some(Cut::Long);
+        };
+        if len == 0 {
+            return None;
+        }
+        Some(Cut::Line(len))
+    }
+}
+
 // The line that is begun, and the memory that holds its bytes.
 #[derive(Drop)]
 pub struct LineCutter<'a> {
@@ -69,18 +85,12 @@ impl<'a> LineCutter<'a> {
         None
     }
 
-    // The end of the input: the last line, where its 0A is missing.
+    // The end of the input, as `Begun::finish`.
     pub fn finish(&self) -> Option<Cut>
         ensures by_index { (buf begun : List ℕ) → Holds (counted self.now.begun.cut) buf begun → told result buf ≡ on_end begun }
         ensures value { result ≡ finished_event (counted self.now.begun.cut) }
     {
-        let Cut::Line(len) = self.begun.cut else {
-            return Some(Cut::Long);
-        };
-        if len == 0 {
-            return None;
-        }
-        Some(Cut::Line(len))
+        self.begun.finish()
     }
 
     // The bytes of a line that was cut off.

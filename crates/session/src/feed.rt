@@ -32,6 +32,7 @@ impl<'a> Session<'a> {
         ensures same_out { result.machine.out.ghost_name ≡ out.entry.ghost_name }
         ensures begun { counted result.lines.begun.cut ≡ 0 }
         ensures store { result.machine.store.now ≡ store.old }
+        ensures printed { result.machine.printed.bytes ≡ 0 }
     {
         Session {
             lines: LineCutter::new(line),
@@ -58,6 +59,7 @@ impl<'a> Session<'a> {
     // The end of the input.
     pub fn feed_end(&mut self)
         ensures fed { FedEnd (state_of self.old) (text_of self.new) }
+        ensures kept { self.new.lines ≡ self.old.lines }
         ensures same_session { SameSession self.old self.new }
     {
         let cut = self.lines.finish();

@@ -1,5 +1,5 @@
 // The lines that are printed for a reply, and for the rows of an answer.
-ghost use Rattle.std.specs.Prelude.{map, ◌+◌, ◌*◌, ◌≤◌, length};
+ghost use Rattle.std.specs.Prelude.{map, List, ℕ, ◌≡◌, ◌+◌, ◌*◌, ◌≤◌, length};
 ghost use Rattle.buffer.specs.Lists.{flat};
 ghost use Rattle.rows.specs.Sizes.{row_size};
 ghost use Rattle.rows.specs.Records.{records};
@@ -8,6 +8,8 @@ ghost use Rattle.logline.specs.Spelling.{row_line, Wrote};
 ghost use Rattle.nivruska.specs.Replied.{replied};
 ghost use Rattle.session.specs.Sizes.{print_limit};
 ghost use Rattle.session.specs.Printed.{reply_line};
+ghost use Rattle.session.specs.Keeps.{Ran};
+ghost use Rattle.logline.specs.Meaning.{misread};
 
 use crate::sizes::PRINT_LIMIT;
 use logline::spell::{spell_reply, spell_row};
@@ -44,4 +46,16 @@ pub(crate) fn print_reply(reply: Reply, out: &mut [u8; PRINT_LIMIT], at: usize) 
     Printed {
         bytes: spell_reply(out, at, u64::from(reply.number), reply.first, reply.second),
     }
+}
+
+// What is printed for a line that cannot be read, number 12, or for one over 512 bytes, of which the bytes are not there. No store is needed for it.
+pub fn print_misread(out: &mut [u8; PRINT_LIMIT]) -> Printed
+    ensures { (store : List ℕ) → Ran misread store store out.old out.new result.bytes }
+{
+    let reply = Reply {
+        number: 12,
+        first: 0,
+        second: 0,
+    };
+    print_reply(reply, out, 0)
 }

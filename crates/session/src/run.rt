@@ -1,5 +1,5 @@
 // One line of a field log: read, carried out, and what is printed for it.
-use crate::print::{Printed, print_reply, print_rows};
+use crate::print::{Printed, print_misread, print_reply, print_rows};
 use crate::sizes::{ANSWER_SIZE, PRINT_LIMIT, STORE_SIZE};
 use logline::command::Command;
 use logline::reader::parse;
@@ -30,6 +30,7 @@ impl<'a> Machine<'a> {
         ensures same_answer { result.answer.ghost_name ≡ answer.entry.ghost_name }
         ensures same_out { result.out.ghost_name ≡ out.entry.ghost_name }
         ensures store { result.store.now ≡ store.old }
+        ensures printed { result.printed.bytes ≡ 0 }
     {
         Machine {
             store,
@@ -74,17 +75,13 @@ impl<'a> Machine<'a> {
         }
     }
 
-    // Number 12: a line that cannot be read, or one over 512 bytes, of which the bytes are not there.
+    // A line that cannot be read, or one over 512 bytes.
     pub fn misread(&mut self)
         ensures ran { Ran misread self.old.store.now self.new.store.now self.old.out.now self.new.out.now self.new.printed.bytes }
+        ensures answer { self.new.answer.now ≡ self.old.answer.now }
         ensures same_memory { SameMemory self.old self.new }
     {
-        let reply = Reply {
-            number: 12,
-            first: 0,
-            second: 0,
-        };
-        self.printed = print_reply(reply, self.out, 0);
+        self.printed = print_misread(self.out);
     }
 
     // A line without its 0A.
