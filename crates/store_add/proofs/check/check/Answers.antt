@@ -1,6 +1,6 @@
 -- Check after check.
 use native.Mathlib.Omega.{arith}
-use mathlib.Core.Path.{◌≡◌, refl, ap}
+use mathlib.Core.Path.{◌≡◌, refl}
 use Rattle.std.proofs.lemmas.Result.{err_from_is_err_and}
 use Rattle.matcher.specs.Form.{path_form, path_number}
 use Rattle.rows.specs.Entry.{entry}
@@ -45,6 +45,3 @@ returns-clause-checked c =
     let f = c.args.front in
     has_space f.m f.l f.held (entry c.args.path.now c.args.value c.args.reference.now) (path_fine (goal.at.returns-clause-checked c).In_ok-refuse_unformed) c.in-Some.ensures.cases.long
     c.requires (λ e. c.if-front-held_limit.false (omega (arith, e, c.held_limit.ensures.0)))
-
-pub returns-clause-same : goal.returns-clause-same
-returns-clause-same c = ap (entry c.args.path.now c.args.value) c.in-Some.ensures.cases.same

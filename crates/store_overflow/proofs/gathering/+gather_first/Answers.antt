@@ -7,17 +7,6 @@ use Rattle.store_overflow.proofs.gathering.+gather_first.Goals as goal
 pub returns-then-k-eq0 : goal.returns-then-k-eq0
 returns-then-k-eq0 t c = gathered_none _ _ _ _ _ _ c.if-k-eq0.true
 
-pub gather_first-n-requires : goal.gather_first-n-requires
-gather_first-n-requires t c =
-    let p = c.requires in
-    (omega (arith, c.if-k-eq0.false), ((omega (arith, p.places.0), p.places.1, λ i h. p.places.2 i (omega arith)), p.fits))
-
-pub gather-requires : goal.gather-requires
-gather-requires t c =
-    let part = c.trie_range-place.ensures in
-    let behind = c.requires.places.2 (c.args.k - 1) (omega (arith, c.if-k-eq0.false)) in
-    (part.ordered, omega (arith, part.inside, behind), omega (arith, c.gather_first-n.ensures.most, c.requires.fits, c.gather_first-n.auto.s))
-
 pub returns : goal.returns
 returns t c =
     let p = c.requires in

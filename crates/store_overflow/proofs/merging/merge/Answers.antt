@@ -23,14 +23,8 @@ build_level-used-requires c =
     let long = same_long a.s.now _ a.s.now a.base a.size a.n a.tau 0 p.0 p.2 p.3 first in
     (short_now a.s.now _ a.s.now a.base a.size a.n a.tau 0 p.0 p.2 p.3 first, omega arith, omega arith, omega arith, omega arith)
 
-pub overflow_add-base : goal.overflow_add-base
-overflow_add-base c = omega (arith, used c)
-
 pub overflow_sub-size : goal.overflow_sub-size
 overflow_sub-size c = omega (arith, used c)
-
-pub clear-requires : goal.clear-requires
-clear-requires c = omega (arith, used c, c.build_level-used.auto.s, c.sort.auto.s)
 
 pub returns : goal.returns
 returns c =

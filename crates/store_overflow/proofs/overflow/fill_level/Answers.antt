@@ -11,9 +11,6 @@ use Rattle.store_overflow.proofs.overflow.fill_level.Goals as goal
 size : (c : After-level_size-size) → let a = c.args in Sized a.front.m a.front.l a.j c.level_size-size.result
 size c = let p = c.requires in sized _ _ _ _ p.0 p.1 c.level_size-size.ensures.0 c.level_size-size.ensures.1
 
-pub overflow_sub-size : goal.overflow_sub-size
-overflow_sub-size c = (size (goal.at.overflow_sub-size c).After-level_size-size).some
-
 pub gather_first-n-requires : goal.gather_first-n-requires
 gather_first-n-requires c =
     let p = c.requires in
