@@ -7,8 +7,7 @@ ghost use Rattle.trie_read.specs.Shape.{above_of};
 use crate::kind::Dimension;
 
 // Stands for the byte of a string without bytes. It is above all bytes, since such a string comes last; an Option's None would come first. A number as in
-// the theory's `first` and `branching`, which the contracts here and of `find`, `same_branch` and trie_add's `leaf_first` cite. An enum whose derived order
-// has the missing byte last was tried as far as additions, which took 0.98 of the time; the proof did not close (its laws were not finished).
+// the theory's `first` and `branching`, which the contracts here and of `find`, `same_branch` and trie_add's `leaf_first` cite.
 pub const NO_BYTE: u16 = 256;
 
 // How many bytes both begin with.
