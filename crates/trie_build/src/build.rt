@@ -122,7 +122,7 @@ fn build(
     partition(slots, scratch, column);
     let mut rest = slots;
     let mut end = body;
-    // No `for` over std's `chunk_by_mut`: the invariant has to carry what its closure computes from turn to turn, and that proof did not close.
+    // No `for` over std's `chunk_by_mut`: the invariant would have to carry what its closure computes from turn to turn. Begun, not proved.
     while !rest.is_empty() {
         let size = run(rest, column) * SLOT_SIZE;
         let (part, others) = rest.split_at_mut(size);
