@@ -64,8 +64,8 @@ impl<'a> Iterator for Suffixes<'a> {
     }
 }
 
-// Is a key with these bytes left one of the suffixes? No `any`: what it promises is of the whole run of its calls, and the induction over that, tried, was
-// left open.
+// Is a key with these bytes left one of the suffixes? No `any` yet: what it promises is of the whole run of its calls, and
+// that needs an induction, which is not written.
 pub fn has_suffix(body: &[u8], value: &[u8], path: &[u8], reference: &[u8]) -> bool
     ensures { (ts : List Key) → All Fixed ts → body.now ≡ suffixes_bytes ts → result ≡ among (key_of value.now path.now reference.now) ts }
 {
