@@ -19,10 +19,14 @@ fn split_word(text: &[u8]) -> (&[u8], &[u8]) {
     }
 }
 
+// Of any byte: no `to_digit`, which takes capitals and of no other byte says anything.
 fn digit(b: u8) -> u8
     ensures { result < 16 }
 {
-    char::from(b).to_digit(16).unwrap_or(0) as u8
+    if b >= b'a' {
+        return (b - b'a' + 10) % 16;
+    }
+    b % 16
 }
 
 // The bytes of a text of two digits for each; one digit left over, as `-`, is no byte.
