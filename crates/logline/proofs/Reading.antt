@@ -3,21 +3,19 @@ use mathlib.Core.Path.{◌≡◌, refl, sym}
 use Rattle.std.proofs.Common.{Option, Some, None}
 use mathlib.Core.Bool.{Bool, true, false, cond}
 use mathlib.Core.List.{List}
-use Prim.Native.Nat.{ℕ, ◌+◌, ◌-◌, ◌<◌}
+use Prim.Native.Nat.{ℕ, ◌+◌, ◌<◌}
 use native.Mathlib.Omega.{arith}
 use lib.ListN.{length, take, drop}
 use borrow.Author.Tests.{lt-ltb, le-ltb}
-use Rattle.buffer.proofs.Lists.{tail_part}
 use Rattle.linefields.specs.Fields.{width}
 use Rattle.logline.specs.Meaning.{Meaning, with_field, with_number, Says}
 use Rattle.logline.specs.Meaning.Meaning.{misread, addition, searching}
 use Rattle.logline.specs.declared.command.Command.{Command}
 
 module _ (s : List ℕ) where
-  -- n is where what follows the comma begins
-  pub field_there : (e n : ℕ) → width s ≡ e → e < length s → n ≡ e + 1 → (k : List ℕ → List ℕ → Meaning) → with_field s k ≡ k (take e s) (take (length s - n) (drop n s))
+  pub field_there : (e : ℕ) → width s ≡ e → e < length s → (k : List ℕ → List ℕ → Meaning) → with_field s k ≡ k (take e s) (drop (e + 1) s)
   unfolding with_field
-  field_there e n w h next k = rw (w, lt-ltb e (length s) h, next, tail_part (e + 1) s)
+  field_there e w h k = rw (w, lt-ltb e (length s) h)
 
   pub field_lost : width s ≡ length s → (k : List ℕ → List ℕ → Meaning) → with_field s k ≡ misread
   unfolding with_field

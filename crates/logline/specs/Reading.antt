@@ -1,5 +1,5 @@
 -- What was read of a line: what every meaning that begins with a field, or with a number, becomes. Assumes nothing: these are definitions.
-use Rattle.std.specs.Prelude.{ℕ, ◌≡◌, List, Option, Some, None}
+use Rattle.std.specs.Prelude.{ℕ, ◌≡◌, List, Option, Some, None, drop}
 use Rattle.std.specs.Borrow.{Bor}
 use Rattle.linefields.specs.Fields.{number_of}
 use Rattle.logline.specs.Meaning.{Meaning, with_field, with_number}
@@ -8,7 +8,7 @@ use Rattle.logline.specs.declared.reader.Line.{Line}
 
 -- what remains of a line
 abbrev pub rest_of : Line → List ℕ
-rest_of l = l.rest.now
+rest_of l = drop l.at l.bytes.now
 
 -- k of the field that was read
 abbrev pub with_part : Option (Bor (List ℕ)) → (List ℕ → Meaning) → Meaning

@@ -1,4 +1,5 @@
-// A reader: what remains of a line. A path or pattern is all that remains, commas included.
+// A reader: a line, and the position from which on it is to be read. A path or pattern is all that remains, commas included. Past the end
+// there is an empty line.
 ghost use Rattle.std.specs.Prelude.{◌≡◌, drop};
 ghost use Rattle.logline.specs.Meaning.{meaning, addition_of, search_of, setup_of, Says};
 ghost use Rattle.logline.specs.Reading.{rest_of, FieldRead, NumberRead};
@@ -9,34 +10,32 @@ use linefields::fields::{decimal, is_only, reference};
 
 #[derive(Clone, Copy)]
 pub struct Line<'a> {
-    pub rest: &'a [u8],
+    pub bytes: &'a [u8],
+    pub at: usize,
 }
 
 impl<'a> Line<'a> {
-    // The line from a position on; past the end there is an empty line.
     pub fn new(bytes: &'a [u8], at: usize) -> Line<'a>
-        ensures { result.rest.now ≡ drop at bytes.now }
+        ensures { (result.bytes ≡ bytes.entry) × (result.at ≡ at) }
     {
-        Line {
-            rest: bytes.get(at..).unwrap_or(&[]),
-        }
+        Line { bytes, at }
     }
 
-    // All that remains.
+    // All that remains from the position on.
     pub fn rest(self) -> &'a [u8]
-        ensures { result ≡ self.entry.rest }
+        ensures { result.now ≡ drop self.entry.at self.entry.bytes.now }
     {
-        self.rest
+        self.bytes.get(self.at..).unwrap_or(&[])
     }
 
     // The field up to the next comma; there is none without a comma.
     fn field(&mut self) -> Option<&'a [u8]>
         ensures { FieldRead (rest_of self.old) result (rest_of self.new) }
     {
-        let end = self.rest.iter().position(|b| *b == b',')?;
-        let field = &self.rest[..end];
-        self.rest = &self.rest[end + 1..];
-        Some(field)
+        let rest = self.rest();
+        let end = rest.iter().position(|b| *b == b',')?;
+        self.at += end + 1;
+        Some(&rest[..end])
     }
 
     // A decimal field.
@@ -55,7 +54,7 @@ impl<'a> Line<'a> {
         Some(Command::Add {
             value,
             reference,
-            path: self.rest,
+            path: self.rest(),
         })
     }
 
@@ -68,7 +67,7 @@ impl<'a> Line<'a> {
         Some(Command::Search {
             low,
             high,
-            pattern: self.rest,
+            pattern: self.rest(),
         })
     }
 
@@ -78,15 +77,15 @@ impl<'a> Line<'a> {
     {
         let m = decimal(first)?;
         let l = self.number()?;
-        let tau = decimal(self.rest)?;
+        let tau = decimal(self.rest())?;
         Some(Command::Setup { m, l, tau })
     }
 
-    // What the line says; None is misread.
+    // What the line says from the position on; None is misread.
     pub fn read(mut self) -> Option<Command<'a>>
-        ensures { Says (meaning (rest_of self.entry)) result }
+        ensures { Says (meaning (drop self.entry.at self.entry.bytes.now)) result }
     {
-        if LINE_LIMIT < self.rest.len() {
+        if LINE_LIMIT < self.rest().len() {
             return None;
         }
         let first = self.field()?;
