@@ -1,5 +1,5 @@
 -- What the functions that look for positions promise. Assumes nothing: these are definitions.
-use Rattle.std.specs.Prelude.{ℕ, zero, suc, ◌+◌, ◌≤◌, ◌<◌, ◌≡◌, Bool, true, false, List, [], length, get_or}
+use Rattle.std.specs.Prelude.{ℕ, zero, suc, ◌+◌, ◌≤◌, ◌<◌, ◌≡◌, Bool, List, [], length, get_or}
 use Rattle.std.proofs.Math.Option.{Option, none, some}
 use Rattle.rows.specs.Sizes.{length_at}
 use Rattle.trie_theory.specs.Forest.{Key}
@@ -14,11 +14,6 @@ use Rattle.trie_read.specs.declared.kind.Kind.TheVariants.{Leaf, Inner}
 -- byte i of slot k
 abbrev pub slot_byte : List (List ℕ) → ℕ → ℕ → ℕ
 slot_byte rs k i = get_or (get_or rs k []) i 0
-
--- whether all slots have the same byte at i
-abbrev pub Same : List (List ℕ) → ℕ → Bool → Type 0
-Same rs i true = (k : ℕ) → k < length rs → slot_byte rs k i ≡ slot_byte rs 0 i
-Same rs i false = (k : ℕ) × (k < length rs) × (slot_byte rs k i ≡ slot_byte rs 0 i → ⊥)
 
 -- the strings that begin at `start` in slots have the bytes of the first from `from` up to j, and one has another at j where that is below the limit
 pub record Alike (rs : List (List ℕ)) (start from limit j : ℕ) : Type 0 where

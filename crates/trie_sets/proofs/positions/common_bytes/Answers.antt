@@ -1,20 +1,16 @@
--- The first position that not all have in common, or the limit.
-use Rattle.std.proofs.Common.{ℕ, ◌+◌, ◌≤◌, ◌<◌, List, Option, Some, None, true, false, rules, arith}
-use Rattle.std.specs.Option.{MatchOption, unwrap_or}
-use Rattle.std.proofs.lemmas.Iterator.{first_from_Range}
-use Rattle.trie_sets.specs.Positions.{Same, Alike}
+-- The first slot is passed over: a turn's slot is the one behind it.
+use native.Mathlib.Omega.{arith}
+use mathlib.Core.Path.{◌≡◌}
+use mathlib.Core.List.{[]}
+use Prim.Native.Nat.{◌+◌}
+use borrow.Author.Count.{below_more}
+use Rattle.std.proofs.lemmas.Grind.{get_or_after_one}
+use Rattle.buffer.proofs.Lists.{tail_part}
 use Rattle.trie_sets.proofs.positions.common_bytes.Goals as goal
 
-first : (rs : List (List ℕ)) (start from limit : ℕ) (r : Option ℕ) → from ≤ limit
-    → MatchOption r ((k : ℕ) → from ≤ k → k < limit → Same rs (start + k) true)
-    (λ j. (from ≤ j) × (j < limit) × Same rs (start + j) false × ((k : ℕ) → from ≤ k → k < j → Same rs (start + k) true))
-    → Alike rs start from limit (unwrap_or r limit)
-first rs start from limit None l all = record { low = l; high = omega arith; alike = λ k i n f j. all i f j k n; apart = λ h. absurd (omega arith) }
-first rs start from limit (Some j) l (f, h, apart, all) = record { low = f; high = omega arith; alike = λ k i n f h. all i f h k n; apart = λ h. apart }
-
-pub returns : goal.returns
-returns c =
-    let a = c.args in
-    let rs = a.slots.now in
-    rw c.unwrap_or.ensures (first rs a.start a.from a.limit _ c.requires.1
-    (first_from_Range _ _ _ _ (λ j. Same rs (a.start + j) false) (λ j. Same rs (a.start + j) true) c.find.ensures.ran (λ x q k. search rules) (λ x q k. search rules)))
+pub loop-slot-preserved : goal.loop-slot-preserved
+loop-slot-preserved c =
+    let i = c.loop-slot.slot-index in
+    let next : i + 1 ≡ 1 + i = omega arith in
+    let same = rw (tail_part 1 c.args.slots.now, get_or_after_one c.args.slots.now i []) at c.if-slot-start.false in
+    (c.loop-slot.invariant.0, below_more _ _ c.loop-slot.invariant.1 (rw next same))
