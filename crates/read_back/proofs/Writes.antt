@@ -1,4 +1,4 @@
--- What makes a record: its parts, written over zeros. Assumes nothing.
+-- What putting a record writes. Assumes nothing.
 use mathlib.Core.Path.{◌≡◌, ap, ◌∙◌}
 use Prim.Native.Nat.{ℕ, ◌+◌, ◌-◌, ◌*◌, ◌≤◌}
 use mathlib.Core.List.{List, [], ◌∷◌, ◌++◌, append_assoc}
@@ -21,23 +21,19 @@ module _ (n : ℕ) (k way : List ℕ) (long : length k ≡ slot_size) (ways : le
   length_row : length row ≡ row_size
   length_row = length-take-le row_size k (omega arith)
 
-  abbrev blank : List ℕ
-  blank = replicate record_size 0
+  abbrev zeros : List ℕ
+  zeros = replicate (node_size * (node_limit - n)) 0
 
-  length_blank : length blank ≡ record_size
-  length_blank = length-replicate {A = ℕ} record_size 0
+  module _ (s : List ℕ) (at : ℕ) (fit : at + record_size ≤ length s) where
+    counted : set (splice s at row) (at + row_size) n ≡ splice s at (row ++ (n ∷ []))
+    counted = let e : at + length row ≡ at + row_size = omega (arith, length_row) in rw e at (splice_snoc s at row n (omega (arith, length_row)))
 
-  counted : set (splice blank 0 row) row_size n ≡ splice blank 0 (row ++ (n ∷ []))
-  counted = let e : 0 + length row ≡ row_size = omega (arith, length_row) in rw e at (splice_snoc blank 0 row n (omega (arith, length_row, length_blank)))
-
-  pub recorded : splice (set (splice blank 0 row) row_size n) (row_size + 1) way ≡ record_bytes n way k
-  unfolding record_bytes
-  recorded =
-      let one = length-append row (n ∷ []) in
-      let all = (row ++ (n ∷ [])) ++ way in
-      let two : length all ≡ row_size + 1 + node_size * n = omega (arith, length_row, one, length-append (row ++ (n ∷ [])) way) in
-      let rest : record_size - (0 + length all) ≡ node_size * (node_limit - n) = omega (arith, two) in
-      splice_then (set (splice blank 0 row) row_size n) blank 0 (row ++ (n ∷ [])) (row_size + 1) way counted (omega (arith, length_row)) (omega (arith, length_row, length_blank))
-      ∙ splice_is blank 0 all
-      ∙ ap (λ (z : List ℕ). all ++ z) (drop-replicate {X = ℕ} (0 + length all) record_size 0 ∙ ap (λ (m : ℕ). replicate m 0) rest)
-      ∙ simp append_assoc
+    pub recorded : splice (splice (set (splice s at row) (at + row_size) n) (at + (row_size + 1)) way) (at + (row_size + 1) + node_size * n) zeros
+        ≡ splice s at (record_bytes n way k)
+    unfolding record_bytes
+    recorded =
+        let one = length-append row (n ∷ []) in
+        let two = length-append (row ++ (n ∷ [])) way in
+        let way_in = splice_then (set (splice s at row) (at + row_size) n) s at (row ++ (n ∷ [])) (at + (row_size + 1)) way counted (omega (arith, length_row)) (omega (arith, length_row)) in
+        let rest = splice_then _ s at ((row ++ (n ∷ [])) ++ way) (at + (row_size + 1) + node_size * n) zeros way_in (omega (arith, length_row)) (omega (arith, length_row)) in
+        rest ∙ ap (splice s at) (simp append_assoc)

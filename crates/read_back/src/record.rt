@@ -1,10 +1,11 @@
 // The record of a key: its row, the number of nodes above it, these nodes, and zeros where a deeper key has nodes.
-ghost use Rattle.std.specs.Prelude.{◌≡◌, ◌*◌, ◌≤◌, take};
+ghost use Rattle.std.specs.Prelude.{◌≡◌, cond, ◌*◌, ◌≤◌, length, take, ltb};
+ghost use Rattle.buffer.specs.Splice.{splice};
 ghost use Rattle.rows.specs.Sizes.{node_limit, record_size};
 ghost use Rattle.read_back.specs.Readings.{node_size, record_bytes};
 ghost use Rattle.read_back.specs.RecordLength.{length_record};
 
-use buffer::moves::copy_from;
+use buffer::moves::{clear, copy_from};
 use entries::SLOT_SIZE;
 use gather::keys::Format;
 use gather::output::Output;
@@ -15,17 +16,27 @@ const COUNT_AT: usize = ROW_SIZE;
 
 const WAY_AT: usize = COUNT_AT + 1;
 
-// The record of the key whose slot is given, below n nodes of the way.
-#[tactic(auto, using(crate::proofs::Writes::recorded))]
-fn record(key: &[u8; SLOT_SIZE], way: &[u8; WAY_SIZE], n: usize) -> [u8; RECORD_SIZE]
-    requires { n ≤ node_limit }
-    ensures { result ≡ record_bytes n (take (node_size * n) way.now) key.now }
+// Writes the record of the key whose slot is given, below n nodes of the way, behind m other records, if there is room. In place, and only then: a
+// walk that counts makes none.
+fn put_record(
+    answer: &mut [u8],
+    m: usize,
+    room: usize,
+    key: &[u8; SLOT_SIZE],
+    way: &[u8; WAY_SIZE],
+    n: usize,
+)
+    requires { (room * record_size ≤ length answer.old) × (n ≤ node_limit) }
+    ensures { answer.new ≡ cond (ltb m room) (splice answer.old (m * record_size) (record_bytes n (take (node_size * n) way.now) key.now)) answer.old }
 {
-    let mut record = [0u8; RECORD_SIZE];
-    copy_from(&mut record, 0, &key[..ROW_SIZE]);
-    record[COUNT_AT] = n as u8;
-    copy_from(&mut record, WAY_AT, &way[..NODE_SIZE * n]);
-    record
+    if m < room {
+        let at = m * RECORD_SIZE;
+        let end = NODE_SIZE * n;
+        copy_from(answer, at, &key[..ROW_SIZE]);
+        answer[at + COUNT_AT] = n as u8;
+        copy_from(answer, at + WAY_AT, &way[..end]);
+        clear(answer, at + WAY_AT + end, WAY_SIZE - end);
+    }
 }
 
 // A key's row is its record.
@@ -37,7 +48,8 @@ impl Format for Records {
     ghost slot_row = { record_bytes };
 
     fn put(output: &mut Output<'_>, key: &[u8; SLOT_SIZE], way: &[u8; WAY_SIZE], n: usize) {
-        output.put(&record(key, way, n));
+        put_record(output.bytes, output.rows, output.room, key, way, n);
+        output.rows += 1;
     }
 
     ghost even = { λ n way slot long ways few. length_record n way slot long ways few };
