@@ -97,6 +97,19 @@ bytes_of_add (suc j) k n =
     rw (z, bytes_of_suc (suc (j + k)) n, bytes_of_add j k (n % 256 ^ suc (j + k)), m, digits_div (n / 256 ^ k % 256 ^ suc j) low, digits_mod (n / 256 ^ k % 256 ^ suc j) low, q)
     (rw (bytes_of_suc (suc j) (n / 256 ^ k)))
 
+-- eight bytes are two times four
+pub bytes_of_8 : (x : ℕ) → bytes_of 8 x ≡ bytes_of 4 (x / 4294967296) ++ bytes_of 4 (x % 4294967296)
+bytes_of_8 x = bytes_of_add 3 4 x
+
+-- four digits as code computes them
+pub bytes_of_4 : (x : ℕ) → bytes_of 4 x ≡ x / 16777216 ∷ x / 65536 % 256 ∷ x / 256 % 256 ∷ x % 256 ∷ []
+unfolding bytes_of
+bytes_of_4 x =
+    let e1 : x % 16777216 / 65536 ≡ x / 65536 % 256 = omega arith in
+    let e2 : x % 16777216 % 65536 / 256 ≡ x / 256 % 256 = omega arith in
+    let e3 : x % 16777216 % 65536 % 256 / 1 ≡ x % 256 = omega arith in
+    rw (e1, e2, e3)
+
 digits : (a b c d : ℕ) → number (a ∷ b ∷ c ∷ d ∷ []) ≡ a * 16777216 + b * 65536 + c * 256 + d
 unfolding number
 digits a b c d = omega arith
@@ -128,6 +141,10 @@ pub eight_read : (s : List ℕ) → length s ≡ 8 → from_be_bytes w64 s ≡ n
 eight_read s l =
     let all : region s 0 8 ≡ s = take_all 8 s (omega arith) in
     omega (arith, rw all at (number_8 s 0 (omega arith)), number_4 s 0 (omega arith), number_4 s 4 (omega arith))
+
+-- four digits, one by one
+pub four_digits : (a b c d : ℕ) → from_be_bytes w32 (a ∷ b ∷ c ∷ d ∷ []) ≡ a * 16777216 + b * 65536 + c * 256 + d
+four_digits a b c d = four_read (a ∷ b ∷ c ∷ d ∷ []) refl ∙ digits a b c d
 
 byte_at : (s : List ℕ) → all byte s ≡ true → (i : ℕ) → get_or s i 0 < 256
 byte_at [] a i = omega arith

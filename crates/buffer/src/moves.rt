@@ -41,7 +41,8 @@ fn move_up(s: &mut [u8], from: usize, to: usize, n: usize)
 }
 
 // Moves the `n` bytes at `from` to `to`; the two stretches may overlap, either way round.
-#[tactic(auto, using(crate::proofs::Turns::copied_within))]
+// The first law that it names proves it; by the others it is also proved in two parts, as must-fail/ has it.
+#[tactic(auto, using(crate::proofs::Turns::copied_within, crate::proofs::Turns::down_parts, crate::proofs::Turns::up_parts))]
 pub fn move_within(s: &mut [u8], from: usize, to: usize, n: usize)
     requires { (from + n ≤ length s.old) × (to + n ≤ length s.old) }
     ensures { s.new ≡ splice s.old to (region s.old from n) }
