@@ -1,14 +1,17 @@
 -- Comparing strings byte by byte. Assumes nothing.
 use mathlib.Core.Path.{◌≡◌, refl, ap}
 use mathlib.Core.Bool.{Bool, true, false, cond, ◌&&◌}
-use Prim.Native.Nat.{ℕ, suc, ◌+◌, ◌≤◌}
+use Prim.Native.Nat.{ℕ, suc, ◌+◌, ◌≤◌, ◌<◌}
 use mathlib.Core.List.{List, [], ◌∷◌}
 use native.Mathlib.Omega.{arith}
+use native.Mathlib.Numerals.{add-one}
 use Rattle.std.specs.Prelude.{Some, None, slice_get}
 use Rattle.std.specs.List.{prefix_len, zip}
-use lib.ListN.{length, take}
+use lib.ListN.{length, take, get_or, drop}
+use lib.Seq.{drop-cons, drop-length}
 use lib.Dec.{eqb}
 use lib.Pointwise.{pointwise}
+use borrow.Author.Tests.{eq-eqb, ne_eqb}
 use Rattle.buffer.proofs.Tests.{and_right}
 use Rattle.trie_theory.specs.Strings.{begins, common, first}
 use Rattle.trie_theory.specs.Dimensions.{root, below, branching}
@@ -19,6 +22,33 @@ unfolding begins
 begins_length [] s e = omega arith
 begins_length (a ∷ p) [] e = absurd (let z : ◌≡◌ {A = Bool} false true = e in let y : ◌≡◌ {A = ℕ} 0 1 = cc in omega arith)
 begins_length (a ∷ p) (b ∷ s) e = let h = begins_length p s (and_right (eqb a b) (begins p s) e) in omega arith
+
+-- ---- what is left to compare after i equal bytes
+
+begins_cons : (a b : ℕ) (p s : List ℕ) → begins (a ∷ p) (b ∷ s) ≡ eqb a b && begins p s
+unfolding begins
+begins_cons a b p s = refl
+
+pub begins_short : (p s : List ℕ) → length s < length p → begins p s ≡ false
+unfolding begins
+begins_short [] s h = absurd (omega arith)
+begins_short (a ∷ p) [] h = refl
+begins_short (a ∷ p) (b ∷ s) h = go (eqb a b) (begins_short p s (omega arith))
+  where
+    go : (t : Bool) → begins p s ≡ false → t && begins p s ≡ false
+    go true e = e
+    go false e = refl
+
+pub begins_all : (p s : List ℕ) (i : ℕ) → length p ≤ i → i ≤ length p → begins (drop i p) (drop i s) ≡ true
+unfolding begins
+begins_all p s i h k = let e : i ≡ length p = omega arith in rw (e, drop-length p)
+
+module _ (p s : List ℕ) (i : ℕ) (inp : i < length p) (ins : i < length s) where
+  pub begins_on : get_or p i 0 ≡ get_or s i 0 → begins (drop i p) (drop i s) ≡ begins (drop (i + 1) p) (drop (i + 1) s)
+  begins_on e = rw (add-one, drop-cons p i 0 inp, drop-cons s i 0 ins, begins_cons, eq-eqb (get_or p i 0) (get_or s i 0) e)
+
+  pub begins_off : (get_or p i 0 ≡ get_or s i 0 → ⊥) → begins (drop i p) (drop i s) ≡ false
+  begins_off n = rw (drop-cons p i 0 inp, drop-cons s i 0 ins, begins_cons, ne_eqb (get_or p i 0) (get_or s i 0) n)
 
 -- what the library's test of a beginning says
 pub pointwise_begins : (p s : List ℕ) → pointwise eqb p (take (length p) s) ≡ begins p s

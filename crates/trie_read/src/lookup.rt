@@ -11,7 +11,7 @@ ghost use Rattle.trie_read.specs.Shape.{key_of, above_of};
 
 use crate::head::first_node;
 use crate::kind::{Dimension, Kind};
-use crate::strings::branch_byte;
+use crate::strings::{begins, branch_byte};
 use crate::suffixes::has_suffix;
 
 // Does the key have the node's branching byte? `above` is how the node above branches, None at the root.
@@ -31,7 +31,7 @@ pub fn same_branch(
 pub fn agrees(nv: &[u8], np: &[u8], value: &[u8], path: &[u8]) -> bool
     ensures { result ≡ all_begin (nv.now ∷ np.now ∷ []) (value.now ∷ path.now ∷ []) }
 {
-    value.starts_with(nv) && path.starts_with(np)
+    begins(nv, value) && begins(np, path)
 }
 
 // Does the entry stand in the tries of these bytes? On bytes that are no trie's it returns all the same. No `for` over `Nodes`: it goes down too, and

@@ -1,14 +1,10 @@
 -- In both dimensions.
 use mathlib.Core.Path.{sym, ◌∙◌}
-use Rattle.trie_read.proofs.Compare.{pointwise_begins}
 use Rattle.trie_read.proofs.Walking.{goes_on, goes_off}
 use Rattle.trie_read.proofs.lookup.agrees.Goals as goal
 
-pub returns-then-starts_with : goal.returns-then-starts_with
-returns-then-starts_with c =
-    c.starts_with-then-starts_with.ensures.value
-    ∙ pointwise_begins _ _
-    ∙ sym (goes_on _ _ _ _ (sym (c.starts_with.ensures.value ∙ pointwise_begins _ _) ∙ c.if-starts_with.true))
+pub returns-then-begins : goal.returns-then-begins
+returns-then-begins c = c.begins-then-begins.ensures ∙ sym (goes_on _ _ _ _ (sym c.begins.ensures ∙ c.if-begins.true))
 
-pub returns-else-starts_with : goal.returns-else-starts_with
-returns-else-starts_with c = c.if-starts_with.false ∙ sym (goes_off _ _ _ _ (sym (c.starts_with.ensures.value ∙ pointwise_begins _ _) ∙ c.if-starts_with.false))
+pub returns-else-begins : goal.returns-else-begins
+returns-else-begins c = c.if-begins.false ∙ sym (goes_off _ _ _ _ (sym c.begins.ensures ∙ c.if-begins.false))
