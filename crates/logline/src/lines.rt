@@ -1,2 +1,2 @@
 // Cutting input into lines, of crate linecut.
-pub use linecut::lines::{Cut, LineCutter};
+pub use linecut::lines::{Begun, Cut, LineCutter};

@@ -1,4 +1,4 @@
-// Carrying out the lines of a field log, on the memory that a Machine owns: what each prints, and what the store keeps.
+// Carrying out the lines of a field log, on memory lent to a Machine: what each prints, and what the store keeps.
 #![tactic(auto)]
 
 pub mod feed;
