@@ -32,7 +32,9 @@ pub trait Format {
     ghost even: { (n : ℕ) (way key : List ℕ) → length key ≡ slot_size → length way ≡ node_size * n → n ≤ node_limit → length (slot_row n way key) ≡ width };
 }
 
-// Puts the rows of the keys of suffixes, which stand in the leaf that is the last of the nodes above.
+// Puts the rows of the keys of suffixes, which stand in the leaf that is the last of the nodes above. Not in line: each node above has a frame of the walk,
+// which would hold what only a leaf wants.
+#[inline(never)]
 fn suffixes<F: Format>(
     body: &[u8],
     below: Below,

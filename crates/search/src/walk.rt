@@ -22,6 +22,8 @@ use value_range::value::{first_number, span_behind};
 
 // Puts the rows of the keys found among suffixes. Not by a `for` over `Suffixes`: the number is read out of 8 bytes of what is left, which may reach behind
 // the value; out of the value's own bytes it made searches of few rows up to 16 % slower (bench/index).
+// Not in line: each node above has a frame of the walk, which would hold what only a leaf wants (199 nested nodes took 87 KB of stack so, and take 58).
+#[inline(never)]
 fn suffixes(
     q: &Query<'_>,
     body: &[u8],
