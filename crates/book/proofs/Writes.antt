@@ -77,7 +77,7 @@ regions_empty m (suc l) t s h =
 -- ---- ONE ENTRY MORE
 
 module _ (b : Book) (e : Entry) (s : Sound b) where
-  held_more : image (put e b) ≡ store_of (holding (held b + 1) (front b)) (tries (put e b))
+  pub held_more : image (put e b) ≡ store_of (holding (held b + 1) (front b)) (tries (put e b))
   unfolding image
   held_more = ap (λ (n : ℕ). store_of (holding n (front b)) (tries (put e b))) (length-append b.entries (e ∷ []))
 

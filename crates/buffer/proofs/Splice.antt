@@ -174,6 +174,12 @@ splice_snoc s o b v h =
     let k : o + length b < length (splice s o b) = rw (length_splice s o b fit) h in
     rw (set_splice (splice s o b) (o + length b) v k, splice_next s o b fit)
 
+-- .. or at the front
+pub splice_cons : (s : List ℕ) (o : ℕ) (b : List ℕ) (v : ℕ) → o + 1 + length b ≤ length s → set (splice s (o + 1) b) o v ≡ splice s o (v ∷ b)
+splice_cons s o b v h =
+    let k : o < length (splice s (o + 1) b) = rw (length_splice s (o + 1) b h) (omega arith) in
+    rw (set_splice (splice s (o + 1) b) o v k) (splice_prev s o (v ∷ []) b h)
+
 -- a region one longer, at its end or at its front
 pub region_snoc : (s : List ℕ) (o n : ℕ) → o + n < length s → region s o (n + 1) ≡ region s o n ++ (get_or s (o + n) 0 ∷ [])
 region_snoc s o n h =
@@ -182,6 +188,16 @@ region_snoc s o n h =
 
 pub region_cons : (s : List ℕ) (o n : ℕ) → o < length s → region s o (n + 1) ≡ get_or s o 0 ∷ region s (o + 1) n
 region_cons s o n h = rw (add-one, add-one, drop-cons s o 0)
+
+-- one element before a splice
+pub set_before : (s : List ℕ) (o : ℕ) (b : List ℕ) (i v : ℕ) → i < o → o + length b ≤ length s → set (splice s o b) i v ≡ splice (set s i v) o b
+set_before s o b i v h fit =
+    let k : i < length (splice s o b) = rw (length_splice s o b fit) (omega arith) in
+    rw (set_splice (splice s o b) i v k, set_splice s i v (omega arith)) (sym (splice_commute s i o (v ∷ []) b (omega arith) fit))
+
+-- one element moved
+pub set_region : (s : List ℕ) (i j : ℕ) → i < length s → j < length s → set s i (get_or s j 0) ≡ splice s i (region s j 1)
+set_region s i j h k = rw (set_splice s i (get_or s j 0) h, region_cons s j 0 k)
 
 -- a splice behind what is dropped
 pub drop_before : (s : List ℕ) (k o : ℕ) (b : List ℕ) → k ≤ length s → drop k (splice s (k + o) b) ≡ splice (drop k s) o b

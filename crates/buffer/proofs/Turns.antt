@@ -6,11 +6,15 @@ use native.Mathlib.Omega.{arith}
 use lib.ListN.{length, set}
 use Rattle.std.specs.List.{copy_within}
 use Rattle.buffer.specs.Splice.{splice, region}
-use Rattle.buffer.proofs.Splice.{region_before, region_after, region_add, splice_is, splice_next, splice_prev, length_splice, length_region, set_splice, splice_snoc}
+use Rattle.buffer.proofs.Splice.{region_before, region_after, region_add, splice_is, splice_next, splice_prev, length_splice, length_region, set_splice, splice_snoc, splice_cons}
 
 pub grow : (s s₀ : List ℕ) (o i : ℕ) (b b' : List ℕ) (v : ℕ) → s ≡ splice s₀ o b → length b ≡ i → o + i < length s₀ → b ++ (v ∷ []) ≡ b'
     → set s (o + i) v ≡ splice s₀ o b'
 grow s s₀ o i b b' v e l h q = rw (e, ← l, ← q) (splice_snoc s₀ o b v (rw l h))
+
+pub grow_front : (s s₀ : List ℕ) (o : ℕ) (b : List ℕ) (v : ℕ) → s ≡ splice s₀ (o + 1) b → o + 1 + length b ≤ length s₀
+    → set s o v ≡ splice s₀ o (v ∷ b)
+grow_front s s₀ o b v e h = rw e (splice_cons s₀ o b v h)
 
 -- std's copy within a slice
 pub copied_within : (s : List ℕ) (from to n : ℕ) → from + n ≤ length s → copy_within s from (from + n) to ≡ splice s to (region s from n)

@@ -87,7 +87,7 @@ found_entries f es k way g e a =
     visits_keys 0 way (known 0 0 k) f ∙ ap (pick has_slot) root ∙ pick_entries es a
 
 -- a part of the bytes before `out`
-take_inside : (m i e : ℕ) (s : List ℕ) → i + m ≤ e → take m (drop i (take e s)) ≡ take m (drop i s)
+pub take_inside : (m i e : ℕ) (s : List ℕ) → i + m ≤ e → take m (drop i (take e s)) ≡ take m (drop i s)
 take_inside m zero e s h = take-take m e s (omega arith)
 take_inside m (suc i) zero s h = absurd (omega arith)
 take_inside m (suc i) (suc e) [] h = refl

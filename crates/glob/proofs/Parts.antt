@@ -6,6 +6,8 @@ use native.Mathlib.Numerals.{add-one}
 use native.Mathlib.Omega.{arith}
 use lib.ListN.{length, take, drop, get_or, length-drop}
 use lib.Seq.{drop-cons, drop-drop}
+use mathlib.Core.Bool.{false}
+use Rattle.buffer.specs.Lists.{none}
 pub use Rattle.buffer.proofs.Lists.{tail_part, no_items}
 
 pub an_item : {A : Type 0} (d : A) (l : List A) → (length l ≡ 0 → ⊥) → l ≡ get_or l 0 d ∷ drop 1 l
@@ -33,6 +35,10 @@ length_back k b = rw (tail_part b k) (length-drop b k)
 -- a walk along a list: what is left from i on is the element there and what is left from i + 1 on
 pub step : (s : List ℕ) (i : ℕ) → i < length s → drop i s ≡ get_or s i 0 ∷ drop (i + 1) s
 step s i l = rw add-one (drop-cons s i 0 l)
+
+pub not_none : {A : Type 0} (l : List A) → (length l ≡ 0 → ⊥) → none l ≡ false
+not_none [] f = absurd (f refl)
+not_none (x ∷ l) f = refl
 
 -- &l[0..] is l, and parts of parts are parts
 pub back_all : (l : List ℕ) → back l 0 ≡ l

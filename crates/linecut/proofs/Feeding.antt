@@ -57,6 +57,11 @@ pub event_line : (n : ℕ) → n ≤ 512 → Line n ≡ event_of n
 unfolding event_of
 event_line n h = rw (le-leb n 512 h)
 
+-- .. and that has more
+pub event_long : (len : ℕ) → 512 < len → event_of len ≡ Long
+unfolding event_of
+event_long len h = rw (lt-leb len 512 h)
+
 module _ (len : ℕ) (buf begun : List ℕ) (h : Holds len buf begun) where
   -- the end of the input
   pub end_none : len ≡ 0 → [] ≡ on_end begun

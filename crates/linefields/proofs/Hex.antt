@@ -1,13 +1,19 @@
 -- The bytes that hex digits spell, two by two. Assumes nothing.
 use mathlib.Core.Path.{◌≡◌, refl, subst, ap, ◌∙◌}
 use mathlib.Core.List.{List, [], ◌∷◌}
-use Prim.Native.Nat.{ℕ, zero, suc, ◌+◌, ◌*◌, ◌<◌}
+use Prim.Native.Nat.{ℕ, zero, suc, ◌+◌, ◌-◌, ◌*◌, ◌<◌}
 use native.Mathlib.Omega.{arith}
 use lib.ListN.{length, get_or}
 use denote.Param.Members.{Mut}
 use Rattle.std.specs.Fn.{Called}
 use Rattle.std.specs.Array.{IsFromFnResultFrom}
 use Rattle.linefields.specs.Fields.{hex_value, unhex}
+
+pub length_unhex : (x : List ℕ) (i : ℕ) → length x ≡ 2 * i → length (unhex x) ≡ i
+unfolding unhex
+length_unhex [] i h = omega arith
+length_unhex (p ∷ []) i h = absurd (omega arith)
+length_unhex (p ∷ q ∷ x) i h = omega (arith, length_unhex x (i - 1) (omega arith))
 
 pub unhex_each : (s out : List ℕ) → length s ≡ 2 * length out
     → ((i : ℕ) → i < length out → get_or out i 0 ≡ hex_value (get_or s (2 * i) 0) * 16 + hex_value (get_or s (2 * i + 1) 0)) → out ≡ unhex s

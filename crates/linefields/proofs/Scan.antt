@@ -3,7 +3,7 @@ use mathlib.Core.Path.{◌≡◌, refl, ap}
 use Rattle.std.specs.List.{list_all}
 use mathlib.Core.Bool.{Bool, true, false, cond, not, ◌&&◌}
 use mathlib.Core.List.{List, [], ◌∷◌}
-use Prim.Native.Nat.{ℕ, ◌+◌, ◌-◌, ◌*◌, ◌^◌, ◌≤◌, ◌<◌}
+use Prim.Native.Nat.{ℕ, suc, ◌+◌, ◌-◌, ◌*◌, ◌^◌, ◌≤◌, ◌<◌}
 use native.Mathlib.Omega.{arith}
 use native.Mathlib.Numerals.{add-one}
 use lib.ListN.{length, get_or, drop, drop_of_length-le}
@@ -27,6 +27,15 @@ width_hit b s e = rw (eq-eqb b 44 e)
 pub width_miss : (b : ℕ) (s : List ℕ) → (b ≡ 44 → ⊥) → width (b ∷ s) ≡ width s + 1
 unfolding width
 width_miss b s e = rw (ne_eqb b 44 e, add-one)
+
+pub width_within : (s : List ℕ) → width s ≤ length s
+unfolding width
+width_within [] = omega arith
+width_within (b ∷ s) = go (eqb b 44) (width_within s)
+  where
+    go : (t : Bool) → width s ≤ length s → cond t 0 (suc (width s)) ≤ suc (length s)
+    go true h = omega arith
+    go false h = omega arith
 
 -- ---- one byte
 

@@ -18,7 +18,7 @@ use Rattle.trie_build.specs.Build.{Built}
 use Rattle.trie_sets.proofs.Slotted.{region_get}
 
 -- equal bytes are equal stretches
-region_same : (s s₀ : List ℕ) (a m : ℕ) → length s ≡ length s₀ → a + m ≤ length s₀ → ((i : ℕ) → a ≤ i → i < a + m → get_or s i 0 ≡ get_or s₀ i 0)
+pub region_same : (s s₀ : List ℕ) (a m : ℕ) → length s ≡ length s₀ → a + m ≤ length s₀ → ((i : ℕ) → a ≤ i → i < a + m → get_or s i 0 ≡ get_or s₀ i 0)
     → region s a m ≡ region s₀ a m
 region_same s s₀ a m l h f =
     let e : length (region s a m) ≡ m = length_region s a m (omega arith) in
